@@ -1,0 +1,17 @@
+-- The routing label: DPC + 16,384 × OPC + 268,435,456 × SLS in four octets, low octet first.
+use mathlib.Core.Path.{_≡_}
+use mathlib.Core.List.{List, [], _∷_}
+use Prim.Native.Nat.{ℕ, _+_, _*_, _/_, _%_}
+use lib.ListN.{getD}
+use Rattle.address.specs.declared.labels.Label.{Label}
+
+-- the number that four octets hold, low octet first
+abbrev pub word : List ℕ → ℕ
+word x = getD x 0 0 + 256 * getD x 1 0 + 65536 * getD x 2 0 + 16777216 * getD x 3 0
+
+abbrev pub labelOf : List ℕ → Label
+labelOf x = record { dpc = word x % 16384; opc = word x / 16384 % 16384; sls = word x / 268435456 }
+
+-- 05 40 02 30 is DPC 5, OPC 9, SLS 3
+abbrev pub Label-figure : Type 0
+Label-figure = labelOf (0x05 ∷ 0x40 ∷ 0x02 ∷ 0x30 ∷ []) ≡ record { dpc = 5; opc = 9; sls = 3 }

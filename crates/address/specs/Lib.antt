@@ -1,0 +1,3 @@
+pub mod Label
+pub mod Address
+pub mod Title

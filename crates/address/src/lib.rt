@@ -1,0 +1,11 @@
+// The parts of a signalling message that name places: the routing label, addresses,
+// and the global titles in addresses.
+pub mod addresses;
+pub mod digits;
+pub mod labels;
+pub mod titles;
+
+pub use addresses::Address;
+pub use digits::Digits;
+pub use labels::Label;
+pub use titles::Title;
