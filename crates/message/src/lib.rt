@@ -1,0 +1,17 @@
+// Messages of the connectionless service: UDT, UDTS, XUDT and XUDTS, behind their routing
+// label, read from the octets of a line.
+pub mod faults;
+pub mod parts_of_options;
+pub mod messages;
+pub mod scanning;
+pub mod reading;
+
+pub use faults::Fault;
+pub use faults::ReadFault;
+pub use messages::Form;
+pub use messages::Message;
+pub use messages::Parts;
+pub use parts_of_options::OptionPart;
+pub use parts_of_options::Options;
+pub use parts_of_options::Segmentation;
+
