@@ -17,7 +17,7 @@ past : (on : Bool → ℕ → Result OptionSpan ReadFault) (from : ℕ) (seen : 
 past on from seen m i h =
     ap (λ b. cond b (wrong (length m)) (cond (eqb (octet m i) 0) (Ok (record { start = from; end = i + 1; segmented = seen })) (cond (cutAt m i) (wrong i) (cond (badAt seen m i) (wrong i) (on (eqb (octet m i) 16 || seen) (i + 2 + octet m (i + 1))))))) (le-leb (length m) i h)
 
-enough : (f g from : ℕ) (seen : Bool) (m : List ℕ) (i : ℕ) → length m ≤ f + i → length m ≤ g + i → spanIn f from seen m i ≡ spanIn g from seen m i
+pub enough : (f g from : ℕ) (seen : Bool) (m : List ℕ) (i : ℕ) → length m ≤ f + i → length m ≤ g + i → spanIn f from seen m i ≡ spanIn g from seen m i
 enough zero zero from seen m i h k = refl
 enough zero (suc g) from seen m i h k = sym (past (λ s j. spanIn g from s m j) from seen m i (omega arith))
 enough (suc f) zero from seen m i h k = past (λ s j. spanIn f from s m j) from seen m i (omega arith)

@@ -46,7 +46,8 @@ impl fmt::Display for Fault as FaultDisplay {
             Fault::MessageType => "the message type is none of UDT, UDTS, XUDT and XUDTS",
             Fault::PointersCutOff => "the message ends before its pointers do",
             Fault::ClassOrHop => "the protocol class is not 0 or 1, or the hop counter not 1 to 15",
-            Fault::Pointer => "a pointer names a place past the message or before the end of the part before it",
+            Fault::Pointer =>
+                "a pointer names a place past the message or before the end of the part before it",
             Fault::Address => "the address is not as its indicator tells",
             Fault::Data => "the data is empty or cut off",
             Fault::Options => "an option is cut off or wrong, or the end of the options is lacking",

@@ -1,10 +1,10 @@
 // Messages of the connectionless service: UDT, UDTS, XUDT and XUDTS, behind their routing
 // label, read from the octets of a line.
 pub mod faults;
-pub mod parts_of_options;
 pub mod messages;
-pub mod scanning;
+pub mod parts_of_options;
 pub mod reading;
+pub mod scanning;
 
 pub use faults::Fault;
 pub use faults::ReadFault;
@@ -14,4 +14,3 @@ pub use messages::Parts;
 pub use parts_of_options::OptionPart;
 pub use parts_of_options::Options;
 pub use parts_of_options::Segmentation;
-

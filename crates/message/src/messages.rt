@@ -1,3 +1,5 @@
+ghost use mathlib.Core.Path.{_≡_};
+ghost use Rattle.message.specs.Forms.{classOf, asksReturn, causeOf, hopOf};
 use crate::parts_of_options::Options;
 use address::Address;
 use address::Label;
@@ -30,4 +32,62 @@ pub struct Parts<'a> {
 #[derive(Drop)]
 pub struct Message<'a> {
     pub(crate) parts: Parts<'a>,
+}
+
+impl Form {
+    // The protocol class, 0 or 1 in a message that was read; none where it has a cause.
+    pub fn class(self) -> Option<u8>
+        ensures { λ r. ⌜ r ≡ classOf self ⌝ }
+    {
+        match self {
+            Form::Udt { class } => Some(class % 16),
+            Form::Xudt { class, hop: _ } => Some(class % 16),
+            Form::Udts { cause: _ } => None,
+            Form::Xudts { cause: _, hop: _ } => None,
+        }
+    }
+
+    // Whether the message asks to be returned where it cannot be delivered.
+    pub fn asks_return(self) -> bool
+        ensures { λ r. ⌜ r ≡ asksReturn self ⌝ }
+    {
+        match self {
+            Form::Udt { class } => class >= 128,
+            Form::Xudt { class, hop: _ } => class >= 128,
+            Form::Udts { cause: _ } => false,
+            Form::Xudts { cause: _, hop: _ } => false,
+        }
+    }
+
+    // The cause for which data was returned.
+    pub fn cause(self) -> Option<u8>
+        ensures { λ r. ⌜ r ≡ causeOf self ⌝ }
+    {
+        match self {
+            Form::Udt { class: _ } => None,
+            Form::Xudt { class: _, hop: _ } => None,
+            Form::Udts { cause } => Some(cause),
+            Form::Xudts { cause, hop: _ } => Some(cause),
+        }
+    }
+
+    // The hop counter: how many translations the message may still pass.
+    pub fn hop(self) -> Option<u8>
+        ensures { λ r. ⌜ r ≡ hopOf self ⌝ }
+    {
+        match self {
+            Form::Udt { class: _ } => None,
+            Form::Xudt { class: _, hop } => Some(hop),
+            Form::Udts { cause: _ } => None,
+            Form::Xudts { cause: _, hop } => Some(hop),
+        }
+    }
+}
+
+impl<'a> Message<'a> {
+    pub fn parts(&self) -> Parts<'a>
+        ensures { λ r. ⌜ r ≡ now (self .entry) .parts ⌝ }
+    {
+        self.parts
+    }
 }

@@ -3,7 +3,9 @@ ghost use Rattle.std.specs.declared.option.Option.{Option};
 ghost use Rattle.message.specs.Options.{partSeen, firstOption, behindOption, segmentationOf, segmentationFound};
 
 const SEGMENTATION: u8 = 0x10;
+
 const SEGMENTATION_LENGTH: u8 = 4;
+
 const END: u8 = 0x00;
 
 // Which piece of a unit a message carries: whether it is the first, the protocol class that
@@ -50,8 +52,20 @@ fn first_part<'a>(octets: &'a [u8]) -> OptionPart<'a>
     ensures { λ r. ⌜ partSeen r ≡ firstOption (now (octets .entry)) ⌝ }
 {
     match octets {
-        [SEGMENTATION, SEGMENTATION_LENGTH, about, low, middle, high, ..] => OptionPart::Segmented(Segmentation::of_octets([*about, *low, *middle, *high])),
-        [name, length, rest @ ..] if *name != END && *length as usize <= rest.len() => OptionPart::Other { name: *name, contents: &rest[0..*length as usize] },
+        [
+            SEGMENTATION,
+            SEGMENTATION_LENGTH,
+            about,
+            low,
+            middle,
+            high,
+            ..
+        ] => OptionPart::Segmented(Segmentation::of_octets([*about, *low, *middle, *high])),
+        [name, length, rest @ ..] if *name != END && *length as usize <= rest.len() =>
+            OptionPart::Other {
+                name: *name,
+                contents: &rest[0..*length as usize],
+            },
         _ => OptionPart::End,
     }
 }
@@ -61,7 +75,8 @@ fn behind_part<'a>(octets: &'a [u8]) -> &'a [u8]
     ensures { λ r. ⌜ now r ≡ behindOption (now (octets .entry)) ⌝ }
 {
     match octets {
-        [name, length, rest @ ..] if *name != END && *length as usize <= rest.len() => &octets[2 + *length as usize..],
+        [name, length, rest @ ..] if *name != END && *length as usize <= rest.len() => &octets[2
+            + *length as usize..],
         _ => &octets[octets.len()..],
     }
 }
@@ -87,5 +102,22 @@ impl<'a> Options<'a> {
         let octets = self.octets;
         self.octets = behind_part(octets);
         first_part(octets)
+    }
+
+    // The segmentation among the options, if there is one.
+    pub fn segmentation(self) -> Option<Segmentation>
+        ensures { λ r. ⌜ r ≡ segmentationFound (now (self .entry .octets)) ⌝ }
+    {
+        let mut rest = self.octets;
+        loop {
+            match first_part(rest) {
+                OptionPart::Segmented(s) => return Some(s),
+                OptionPart::Other {
+                    name: _,
+                    contents: _,
+                } => rest = behind_part(rest),
+                OptionPart::End => return None,
+            }
+        }
     }
 }

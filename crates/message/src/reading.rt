@@ -3,6 +3,9 @@ ghost use Prim.Native.Nat.{_<_, _≤_};
 ghost use lib.ListN.{length};
 ghost use Rattle.std.specs.Vec.{made};
 ghost use Rattle.std.specs.declared.result.Result.the-variants.{Ok};
+ghost use Rattle.message.specs.Figures.{Udt-figure, Piece-figure};
+ghost use Rattle.message.specs.FirstFault.{First-fault};
+ghost use Rattle.message.specs.Inside.{Parts-inside};
 ghost use Rattle.message.specs.Options.{SpanInside};
 ghost use Rattle.message.specs.Read.{meaning, trioSeen, placesBody, optionsPlace, spanAt, hasSegmentation, partsBody, body, messageBody, parse, check, classOk, hopOk, dataPlace, Placed, OptionInside};
 use crate::faults::Fault;
@@ -17,10 +20,15 @@ use address::Address;
 use address::Label;
 
 const MOST: usize = 272;
+
 const UDT: u8 = 0x09;
+
 const UDTS: u8 = 0x0A;
+
 const XUDT: u8 = 0x11;
+
 const XUDTS: u8 = 0x12;
+
 const MOST_HOPS: u8 = 15;
 
 // The pointers of a message: the offset of the first, where they end, and their values. A
@@ -60,17 +68,30 @@ fn read_places(message: &[u8], p: Pointers) -> Result<Places, ReadFault>
     let n = message.len();
     let called = p.at + p.called as usize;
     if called < p.start || called >= n {
-        return Err(ReadFault { fault: Fault::Pointer, offset: p.at });
+        return Err(ReadFault {
+            fault: Fault::Pointer,
+            offset: p.at,
+        });
     }
     let calling = p.at + 1 + p.calling as usize;
     if calling < called + 1 + message[called] as usize || calling >= n {
-        return Err(ReadFault { fault: Fault::Pointer, offset: p.at + 1 });
+        return Err(ReadFault {
+            fault: Fault::Pointer,
+            offset: p.at + 1,
+        });
     }
     let data = p.at + 2 + p.data as usize;
     if data < calling + 1 + message[calling] as usize || data >= n {
-        return Err(ReadFault { fault: Fault::Pointer, offset: p.at + 2 });
+        return Err(ReadFault {
+            fault: Fault::Pointer,
+            offset: p.at + 2,
+        });
     }
-    Ok(Places { called, calling, data })
+    Ok(Places {
+        called,
+        calling,
+        data,
+    })
 }
 
 // Where the options begin, if there are any.
@@ -84,7 +105,10 @@ fn options_place(message: &[u8], p: Pointers, data: usize) -> Result<Option<usiz
     }
     let place = p.at + 3 + p.options as usize;
     if place < data + 1 + message[data] as usize || place >= message.len() {
-        return Err(ReadFault { fault: Fault::Pointer, offset: p.at + 3 });
+        return Err(ReadFault {
+            fault: Fault::Pointer,
+            offset: p.at + 3,
+        });
     }
     Ok(Some(place))
 }
@@ -96,7 +120,11 @@ fn read_options(message: &[u8], place: Option<usize>) -> Result<OptionSpan, Read
     ensures bound { λ r. ⌜ made r (SpanInside (now (message .entry))) ⌝ }
 {
     match place {
-        None => Ok(OptionSpan { start: 0, end: 0, segmented: false }),
+        None => Ok(OptionSpan {
+            start: 0,
+            end: 0,
+            segmented: false,
+        }),
         Some(start) => scanning::scan_options(message, start),
     }
 }
@@ -119,22 +147,40 @@ fn read_parts<'a>(message: &'a [u8], q: Places, segmented: bool) -> Result<Trio<
     let a = message[q.called] as usize;
     let called = Address::new(&message[q.called + 1..q.called + 1 + a]);
     if !called.is_good() {
-        return Err(ReadFault { fault: Fault::Address, offset: q.called });
+        return Err(ReadFault {
+            fault: Fault::Address,
+            offset: q.called,
+        });
     }
     let b = message[q.calling] as usize;
     let calling = Address::new(&message[q.calling + 1..q.calling + 1 + b]);
     if !calling.is_good() && (segmented || !calling.is_empty()) {
-        return Err(ReadFault { fault: Fault::Address, offset: q.calling });
+        return Err(ReadFault {
+            fault: Fault::Address,
+            offset: q.calling,
+        });
     }
     let d = message[q.data] as usize;
     if d == 0 || q.data + 1 + d > message.len() {
-        return Err(ReadFault { fault: Fault::Data, offset: q.data });
+        return Err(ReadFault {
+            fault: Fault::Data,
+            offset: q.data,
+        });
     }
-    Ok(Trio { called, calling, data: &message[q.data + 1..q.data + 1 + d] })
+    Ok(Trio {
+        called,
+        calling,
+        data: &message[q.data + 1..q.data + 1 + d],
+    })
 }
 
 // What the pointers of a message name.
-fn read_body<'a>(label: Label, form: Form, message: &'a [u8], p: Pointers) -> Result<Message<'a>, ReadFault>
+fn read_body<'a>(
+    label: Label,
+    form: Form,
+    message: &'a [u8],
+    p: Pointers,
+) -> Result<Message<'a>, ReadFault>
     requires { ⌜ p .at ≤ 3 ⌝ ∗ ⌜ length (now message) ≤ 268 ⌝ }
     ensures { λ r. ⌜ meaning r ≡ body label form (now (message .entry)) p ⌝ }
 {
@@ -142,9 +188,20 @@ fn read_body<'a>(label: Label, form: Form, message: &'a [u8], p: Pointers) -> Re
     let place = options_place(message, p, q.data)?;
     let span = read_options(message, place);
     let trio = read_parts(message, q, has_segmentation(span))?;
-    let OptionSpan { start, end, segmented: _ } = span?;
+    let OptionSpan {
+        start,
+        end,
+        segmented: _,
+    } = span?;
     let options = Options::new(&message[start..end]);
-    let parts = Parts { label, form, called: trio.called, calling: trio.calling, data: trio.data, options };
+    let parts = Parts {
+        label,
+        form,
+        called: trio.called,
+        calling: trio.calling,
+        data: trio.data,
+        options,
+    };
     Ok(Message { parts })
 }
 
@@ -152,7 +209,10 @@ fn check_class(class: u8) -> Result<(), ReadFault>
     ensures { λ r. ⌜ r ≡ check (classOk class) Fault.ClassOrHop 1 (Ok tt) ⌝ }
 {
     if class % 16 > 1 {
-        return Err(ReadFault { fault: Fault::ClassOrHop, offset: 1 });
+        return Err(ReadFault {
+            fault: Fault::ClassOrHop,
+            offset: 1,
+        });
     }
     Ok(())
 }
@@ -161,7 +221,10 @@ fn check_hop(hop: u8) -> Result<(), ReadFault>
     ensures { λ r. ⌜ r ≡ check (hopOk hop) Fault.ClassOrHop 2 (Ok tt) ⌝ }
 {
     if hop == 0 || hop > MOST_HOPS {
-        return Err(ReadFault { fault: Fault::ClassOrHop, offset: 2 });
+        return Err(ReadFault {
+            fault: Fault::ClassOrHop,
+            offset: 2,
+        });
     }
     Ok(())
 }
@@ -175,29 +238,79 @@ fn read_message<'a>(label: Label, message: &'a [u8]) -> Result<Message<'a>, Read
         [UDT, class, called, calling, data, rest @ ..] => {
             check_class(*class)?;
             let start = message.len() - rest.len();
-            let p = Pointers { at: 2, start, called: *called, calling: *calling, data: *data, options: 0 };
+            let p = Pointers {
+                at: 2,
+                start,
+                called: *called,
+                calling: *calling,
+                data: *data,
+                options: 0,
+            };
             read_body(label, Form::Udt { class: *class }, message, p)
         }
         [UDTS, cause, called, calling, data, rest @ ..] => {
             let start = message.len() - rest.len();
-            let p = Pointers { at: 2, start, called: *called, calling: *calling, data: *data, options: 0 };
+            let p = Pointers {
+                at: 2,
+                start,
+                called: *called,
+                calling: *calling,
+                data: *data,
+                options: 0,
+            };
             read_body(label, Form::Udts { cause: *cause }, message, p)
         }
         [XUDT, class, hop, called, calling, data, options, rest @ ..] => {
             check_class(*class)?;
             check_hop(*hop)?;
             let start = message.len() - rest.len();
-            let p = Pointers { at: 3, start, called: *called, calling: *calling, data: *data, options: *options };
-            read_body(label, Form::Xudt { class: *class, hop: *hop }, message, p)
+            let p = Pointers {
+                at: 3,
+                start,
+                called: *called,
+                calling: *calling,
+                data: *data,
+                options: *options,
+            };
+            read_body(
+                label,
+                Form::Xudt {
+                    class: *class,
+                    hop: *hop,
+                },
+                message,
+                p,
+            )
         }
         [XUDTS, cause, hop, called, calling, data, options, rest @ ..] => {
             check_hop(*hop)?;
             let start = message.len() - rest.len();
-            let p = Pointers { at: 3, start, called: *called, calling: *calling, data: *data, options: *options };
-            read_body(label, Form::Xudts { cause: *cause, hop: *hop }, message, p)
+            let p = Pointers {
+                at: 3,
+                start,
+                called: *called,
+                calling: *calling,
+                data: *data,
+                options: *options,
+            };
+            read_body(
+                label,
+                Form::Xudts {
+                    cause: *cause,
+                    hop: *hop,
+                },
+                message,
+                p,
+            )
         }
-        [UDT | UDTS | XUDT | XUDTS, ..] => Err(ReadFault { fault: Fault::PointersCutOff, offset: 0 }),
-        _ => Err(ReadFault { fault: Fault::MessageType, offset: 0 }),
+        [UDT | UDTS | XUDT | XUDTS, ..] => Err(ReadFault {
+            fault: Fault::PointersCutOff,
+            offset: 0,
+        }),
+        _ => Err(ReadFault {
+            fault: Fault::MessageType,
+            offset: 0,
+        }),
     }
 }
 
@@ -205,10 +318,19 @@ fn read_message<'a>(label: Label, message: &'a [u8]) -> Result<Message<'a>, Read
 // of the octets, or the first fault: the one of the least number, and of equal numbers the
 // one of the lowest offset.
 pub fn read<'a>(octets: &'a [u8]) -> Result<Message<'a>, ReadFault>
-    ensures { λ r. ⌜ meaning r ≡ parse (now (octets .entry)) ⌝ }
+    ensures value { λ r. ⌜ meaning r ≡ parse (now (octets .entry)) ⌝ }
+    ensures first_fault { λ r. ⌜ First-fault (now (octets .entry)) (meaning r) ⌝ }
+    ensures parts_inside { λ r. ⌜ Parts-inside (now (octets .entry)) (meaning r) ⌝ }
+    ensures figures { λ _. ⌜ Udt-figure × Piece-figure ⌝ }
 {
     match octets {
-        [a, b, c, d, message @ ..] if !message.is_empty() && octets.len() <= MOST => read_message(Label::of_octets([*a, *b, *c, *d]), message),
-        _ => Err(ReadFault { fault: Fault::Length, offset: 0 }),
+        [a, b, c, d, message @ ..] if !message.is_empty() && octets.len() <= MOST => read_message(
+            Label::of_octets([*a, *b, *c, *d]),
+            message,
+        ),
+        _ => Err(ReadFault {
+            fault: Fault::Length,
+            offset: 0,
+        }),
     }
 }

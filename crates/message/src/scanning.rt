@@ -7,7 +7,9 @@ use crate::faults::Fault;
 use crate::faults::ReadFault;
 
 const SEGMENTATION: u8 = 0x10;
+
 const SEGMENTATION_LENGTH: u8 = 4;
+
 const END: u8 = 0x00;
 
 // Where the options of a message stand, end mark included, and whether segmentation is
@@ -22,7 +24,10 @@ pub struct OptionSpan {
 fn wrong_option(offset: usize) -> ReadFault
     ensures { λ r. ⌜ r ≡ record { fault = Fault.Options; offset = offset } ⌝ }
 {
-    ReadFault { fault: Fault::Options, offset }
+    ReadFault {
+        fault: Fault::Options,
+        offset,
+    }
 }
 
 // The options that begin at a place in the message.
@@ -37,7 +42,11 @@ pub(crate) fn scan_options(message: &[u8], start: usize) -> Result<OptionSpan, R
     while i < n {
         let name = message[i];
         if name == END {
-            return Ok(OptionSpan { start, end: i + 1, segmented });
+            return Ok(OptionSpan {
+                start,
+                end: i + 1,
+                segmented,
+            });
         }
         if i + 1 >= n {
             return Err(wrong_option(i));
