@@ -39,7 +39,7 @@ impl Fault {
     }
 }
 
-impl fmt::Display for Fault as FaultDisplay {
+pub impl fmt::Display for Fault as FaultDisplay {
     fn fmt<W: fmt::Write>(&self, f: &mut fmt::Formatter<W>) -> fmt::Result {
         let words = match *self {
             Fault::Length => "the length is not 5 to 272 octets",

@@ -7,6 +7,7 @@ pub mod reading;
 pub mod scanning;
 
 pub use faults::Fault;
+pub use faults::FaultDisplay;
 pub use faults::ReadFault;
 pub use messages::Form;
 pub use messages::Message;
@@ -14,3 +15,4 @@ pub use messages::Parts;
 pub use parts_of_options::OptionPart;
 pub use parts_of_options::Options;
 pub use parts_of_options::Segmentation;
+pub use reading::read;
