@@ -8,4 +8,6 @@ pub mod titles;
 pub use addresses::Address;
 pub use digits::Digits;
 pub use labels::Label;
+pub use labels::LabelDebug;
+pub use labels::LabelPartialEq;
 pub use titles::Title;
