@@ -14,11 +14,11 @@ const MOST_TITLE: usize = 28;
 // `is_good` says whether they are an address.
 #[derive(Clone, Copy)]
 pub struct Address<'a> {
-    octets: &'a [u8],
+    pub(crate) octets: &'a [u8],
 }
 
 // Where the title begins, behind indicator, code and subsystem.
-fn title_place(indicator: u8) -> usize
+pub(crate) fn title_place(indicator: u8) -> usize
     ensures { λ r. ⌜ r ≡ titlePlace indicator ⌝ }
 {
     1 + 2 * (indicator % 2) as usize + (indicator / 2 % 2) as usize

@@ -23,7 +23,11 @@ mod tests {
         // a label alone
         ("05400230", 11, 0),
         // 273 octets, and an unknown type as well
-        ("05400230ffffffffffffffffffffffffffffffffffffffffffffffffffffffffffffffffffffffffffffffffffffffffffffffffffffffffffffffffffffffffffffffffffffffffffffffffffffffffffffffffffffffffffffffffffffffffffffffffffffffffffffffffffffffffffffffffffffffffffffffffffffffffffffffffffffffffffffffffffffffffffffffffffffffffffffffffffffffffffffffffffffffffffffffffffffffffffffffffffffffffffffffffffffffffffffffffffffffffffffffffffffffffffffffffffffffffffffffffffffffffffffffffffffffffffffffffffffffffffffffffffffffffffffffffffffffffffffffffffffffffffffffffffffffffff", 11, 0),
+        (
+            "05400230ffffffffffffffffffffffffffffffffffffffffffffffffffffffffffffffffffffffffffffffffffffffffffffffffffffffffffffffffffffffffffffffffffffffffffffffffffffffffffffffffffffffffffffffffffffffffffffffffffffffffffffffffffffffffffffffffffffffffffffffffffffffffffffffffffffffffffffffffffffffffffffffffffffffffffffffffffffffffffffffffffffffffffffffffffffffffffffffffffffffffffffffffffffffffffffffffffffffffffffffffffffffffffffffffffffffffffffffffffffffffffffffffffffffffffffffffffffffffffffffffffffffffffffffffffffffffffffffffffffffffffffffffffffffffff",
+            11,
+            0,
+        ),
         // no such type
         ("0540023001", 12, 0),
         // no such type, though all else would do
@@ -73,7 +77,11 @@ mod tests {
         // a title of kind 2 without digits
         ("05400230090003050702080002420601aa", 16, 5),
         // a title of 29 octets
-        ("0540023009000321231e04111111111111111111111111111111111111111111111111111111111102420601aa", 16, 5),
+        (
+            "0540023009000321231e04111111111111111111111111111111111111111111111111111111111102420601aa",
+            16,
+            5,
+        ),
         // empty calling address beside segmentation, and empty data
         ("0540023011010f0406070702420801000010048107000000", 16, 10),
         // data empty
@@ -91,7 +99,11 @@ mod tests {
         // segmentation of three octets, and the end lacking
         ("0540023011010f0406080902420802420601aa1003810700", 18, 15),
         // a second segmentation
-        ("0540023011010f0406080902420802420601aa10048107000010040107000000", 18, 21),
+        (
+            "0540023011010f0406080902420802420601aa10048107000010040107000000",
+            18,
+            21,
+        ),
         // empty calling address, and options that are wrong: no segmentation counts
         ("0540023011010f04060708024208010001aa100481070000", 18, 20),
         // a UDT to 8 from 6
@@ -101,7 +113,11 @@ mod tests {
         // a UDTS of any cause
         ("054002300aff03050702420802420601aa", 0, 0),
         // the first of two pieces
-        ("0540023011010f0406080a02420802420602d1d210048107000000", 0, 0),
+        (
+            "0540023011010f0406080a02420802420602d1d210048107000000",
+            0,
+            0,
+        ),
         // an XUDTS with an empty calling address
         ("0540023012010104060700024208018001aa", 0, 0),
         // an empty calling address beside options without segmentation
@@ -111,9 +127,17 @@ mod tests {
         // a gap before each part, and octets behind the last
         ("05400230090004070aee024208ee024206ee01aaeeee", 0, 0),
         // a called address of 32 octets: a title of 28
-        ("05400230090003232520070500081111111111111111111111111111111111111111111111111111111102420601aa", 0, 0),
+        (
+            "05400230090003232520070500081111111111111111111111111111111111111111111111111111111102420601aa",
+            0,
+            0,
+        ),
         // 272 octets in all
-        ("054002300900030507024208024206ff5a5a5a5a5a5a5a5a5a5a5a5a5a5a5a5a5a5a5a5a5a5a5a5a5a5a5a5a5a5a5a5a5a5a5a5a5a5a5a5a5a5a5a5a5a5a5a5a5a5a5a5a5a5a5a5a5a5a5a5a5a5a5a5a5a5a5a5a5a5a5a5a5a5a5a5a5a5a5a5a5a5a5a5a5a5a5a5a5a5a5a5a5a5a5a5a5a5a5a5a5a5a5a5a5a5a5a5a5a5a5a5a5a5a5a5a5a5a5a5a5a5a5a5a5a5a5a5a5a5a5a5a5a5a5a5a5a5a5a5a5a5a5a5a5a5a5a5a5a5a5a5a5a5a5a5a5a5a5a5a5a5a5a5a5a5a5a5a5a5a5a5a5a5a5a5a5a5a5a5a5a5a5a5a5a5a5a5a5a5a5a5a5a5a5a5a5a5a5a5a5a5a5a5a5a5a5a5a5a5a5a5a5a5a5a5a5a5a5a5a5a5a5a5a5a5a5a5a5a5a5a5a5a5a5a5a5a5a5a5a5a5a5a5a5a5a5a5a5a5a5a5a5a5a5a00", 0, 0),
+        (
+            "054002300900030507024208024206ff5a5a5a5a5a5a5a5a5a5a5a5a5a5a5a5a5a5a5a5a5a5a5a5a5a5a5a5a5a5a5a5a5a5a5a5a5a5a5a5a5a5a5a5a5a5a5a5a5a5a5a5a5a5a5a5a5a5a5a5a5a5a5a5a5a5a5a5a5a5a5a5a5a5a5a5a5a5a5a5a5a5a5a5a5a5a5a5a5a5a5a5a5a5a5a5a5a5a5a5a5a5a5a5a5a5a5a5a5a5a5a5a5a5a5a5a5a5a5a5a5a5a5a5a5a5a5a5a5a5a5a5a5a5a5a5a5a5a5a5a5a5a5a5a5a5a5a5a5a5a5a5a5a5a5a5a5a5a5a5a5a5a5a5a5a5a5a5a5a5a5a5a5a5a5a5a5a5a5a5a5a5a5a5a5a5a5a5a5a5a5a5a5a5a5a5a5a5a5a5a5a5a5a5a5a5a5a5a5a5a5a5a5a5a5a5a5a5a5a5a5a5a5a5a5a5a5a5a5a5a5a5a5a5a5a5a5a5a5a5a5a5a5a5a5a5a5a5a5a5a5a5a5a5a5a00",
+            0,
+            0,
+        ),
     ];
 
     // The number and the offset of what reading answers.
@@ -141,7 +165,14 @@ mod tests {
             return Err(Fail::new("it is a message"));
         };
         let p = m.parts();
-        check_eq(p.label, Label { dpc: 5, opc: 9, sls: 3 })?;
+        check_eq(
+            p.label,
+            Label {
+                dpc: 5,
+                opc: 9,
+                sls: 3,
+            },
+        )?;
         check_eq(p.form, Form::Udt { class: 0 })?;
         check_eq(p.called.subsystem(), Some(8))?;
         check_eq(p.calling.subsystem(), Some(6))?;
@@ -153,12 +184,20 @@ mod tests {
 
     #[test]
     fn options_come_one_after_the_other(rt: LibcRuntime) -> Result<(), Fail> {
-        let octets = hex::octets_of(rt.alloc(), "0540023011010f0406080a02420802420602d1d212010310048107000000")?;
+        let octets = hex::octets_of(
+            rt.alloc(),
+            "0540023011010f0406080a02420802420602d1d212010310048107000000",
+        )?;
         let Ok(m) = message::read(octets.as_slice()) else {
             return Err(Fail::new("it is a message"));
         };
         let p = m.parts();
-        let piece = Segmentation { first: true, class: 0, remaining: 1, reference: 7 };
+        let piece = Segmentation {
+            first: true,
+            class: 0,
+            remaining: 1,
+            reference: 7,
+        };
         check_eq(p.form, Form::Xudt { class: 1, hop: 15 })?;
         check_eq(p.options.segmentation(), Some(piece))?;
         let mut options = p.options;

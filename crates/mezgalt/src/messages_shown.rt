@@ -18,7 +18,11 @@ fn tell_form(rt: &LibcRuntime, form: Form) -> Result<(), AnyError> {
     match form {
         Form::Udt { class } => print!(rt, " class={} return={returns}", class % 16)?,
         Form::Udts { cause } => print!(rt, " cause={cause}")?,
-        Form::Xudt { class, hop } => print!(rt, " class={} return={returns} hop={hop}", class % 16)?,
+        Form::Xudt { class, hop } => print!(
+            rt,
+            " class={} return={returns} hop={hop}",
+            class % 16
+        )?,
         Form::Xudts { cause, hop } => print!(rt, " cause={cause} hop={hop}")?,
     }
     Ok(())
@@ -61,12 +65,24 @@ fn tell_digits(rt: &LibcRuntime, title: Title, octets: &[u8]) -> Result<(), AnyE
 
 fn tell_title(rt: &LibcRuntime, title: Title) -> Result<(), AnyError> {
     match title {
-        Title::Kind2 { translation_type, digits } => {
+        Title::Kind2 {
+            translation_type,
+            digits,
+        } => {
             print!(rt, ", title kind=2 tt={translation_type}")?;
             tell_digits(rt, title, digits)
         }
-        Title::Kind4 { translation_type, numbering_plan, encoding, nature, digits } => {
-            print!(rt, ", title kind=4 tt={translation_type} np={numbering_plan} encoding={encoding} nai={nature}")?;
+        Title::Kind4 {
+            translation_type,
+            numbering_plan,
+            encoding,
+            nature,
+            digits,
+        } => {
+            print!(
+                rt,
+                ", title kind=4 tt={translation_type} np={numbering_plan} encoding={encoding} nai={nature}"
+            )?;
             tell_digits(rt, title, digits)
         }
         Title::Other { kind, octets } => {
@@ -82,7 +98,11 @@ fn tell_address(rt: &LibcRuntime, name: &str, a: Address) -> Result<(), AnyError
         println!(rt, "  {name}: empty")?;
         return Ok(());
     }
-    let way = if a.on_subsystem() { "subsystem" } else { "title" };
+    let way = if a.on_subsystem() {
+        "subsystem"
+    } else {
+        "title"
+    };
     print!(rt, "  {name}: on {way}")?;
     if let Some(code) = a.code() {
         print!(rt, ", code {code}")?;
@@ -100,7 +120,11 @@ fn tell_address(rt: &LibcRuntime, name: &str, a: Address) -> Result<(), AnyError
 fn tell_segmentation(rt: &LibcRuntime, found: Option<Segmentation>) -> Result<(), AnyError> {
     if let Some(s) = found {
         let first = yes_no(s.first);
-        println!(rt, "  segmentation: first={first} class={} remaining={} reference={}", s.class, s.remaining, s.reference)?;
+        println!(
+            rt,
+            "  segmentation: first={first} class={} remaining={} reference={}",
+            s.class, s.remaining, s.reference
+        )?;
     }
     Ok(())
 }
@@ -108,7 +132,11 @@ fn tell_segmentation(rt: &LibcRuntime, found: Option<Segmentation>) -> Result<()
 fn tell_parts(rt: &LibcRuntime, p: Parts) -> Result<(), AnyError> {
     let heap = rt.alloc();
     let name = name_of(p.form);
-    print!(rt, "read: {name} dpc={} opc={} sls={}", p.label.dpc, p.label.opc, p.label.sls)?;
+    print!(
+        rt,
+        "read: {name} dpc={} opc={} sls={}",
+        p.label.dpc, p.label.opc, p.label.sls
+    )?;
     tell_form(rt, p.form)?;
     let called = hex::text_of(heap, p.called.octets())?;
     let calling = hex::text_of(heap, p.calling.octets())?;

@@ -45,8 +45,14 @@ fn tell_bad(rt: &LibcRuntime, desk: &Desk, bad: BadLine) -> Result<(), AnyError>
 }
 
 fn help(rt: &LibcRuntime) -> Result<(), AnyError> {
-    println!(rt, "help: one command a line; what stands behind a # is a comment; - stands for no octets")?;
-    println!(rt, "  read HEX   tells what a line message is, its label included, or why it is refused")?;
+    println!(
+        rt,
+        "help: one command a line; what stands behind a # is a comment; - stands for no octets"
+    )?;
+    println!(
+        rt,
+        "  read HEX   tells what a line message is, its label included, or why it is refused"
+    )?;
     println!(rt, "  help       lists the commands")?;
     Ok(())
 }

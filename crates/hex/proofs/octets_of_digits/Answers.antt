@@ -24,11 +24,12 @@ loop-i-again c =
     let t = c .args .text .now in
     let i = c .loop-i .i in
     let d = vec-items (c .loop-i .out) in
-    let e : vec-items (c .push .last .self) ≡ d ++ c .in-Some .x ∷ [] = search needs in
-    (omega arith,
-    ap (λ r. octetsOn r (drop (i + 2) t)) e
-    ∙ sym (turn d t i (omega arith) ∙ ap (λ o. with o (λ x. octetsOn (d ++ x ∷ []) (drop (i + 2) t))) (sym (c .in-Some .ensures tt)))
-    ∙ c .loop-i .inv .1)
+    let e : vec-items (c .push .last .self) ≡ d ++ c .in-Some .x ∷ [] = search needs in (
+      omega arith,
+      ap (λ r. octetsOn r (drop (i + 2) t)) e
+          ∙ sym (turn d t i (omega arith) ∙ ap (λ o. with o (λ x. octetsOn (d ++ x ∷ []) (drop (i + 2) t))) (sym (c .in-Some .ensures tt)))
+          ∙ c .loop-i .inv .1,
+    )
 
 pub returns : need.returns
 returns c = sym (c .loop-i .inv .1) ∙ over (vec-items (c .loop-i .out)) (c .args .text .now) (c .loop-i .i) (omega arith)
