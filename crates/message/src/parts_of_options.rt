@@ -91,7 +91,8 @@ impl<'a> Options<'a> {
     pub fn octets(self) -> &'a [u8]
         ensures { λ r. ⌜ now r ≡ now (self .entry .octets) ⌝ }
     {
-        self.octets
+        let Options { octets } = self;
+        octets
     }
 
     // The first option that is left, which is then passed.

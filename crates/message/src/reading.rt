@@ -4,6 +4,7 @@ ghost use lib.ListN.{length};
 ghost use Rattle.std.specs.Vec.{made};
 ghost use Rattle.std.specs.declared.result.Result.the-variants.{Ok};
 ghost use Rattle.message.specs.Figures.{Udt-figure, Piece-figure};
+ghost use Rattle.message.specs.Faults.{FaultPlace};
 ghost use Rattle.message.specs.FirstFault.{First-fault};
 ghost use Rattle.message.specs.Inside.{Parts-inside};
 ghost use Rattle.message.specs.Options.{SpanInside};
@@ -64,6 +65,7 @@ fn read_places(message: &[u8], p: Pointers) -> Result<Places, ReadFault>
     requires { ⌜ p .at ≤ 3 ⌝ ∗ ⌜ length (now message) ≤ 268 ⌝ }
     ensures value { λ r. ⌜ r ≡ placesBody (now (message .entry)) p ⌝ }
     ensures bound { λ r. ⌜ made r (Placed (now (message .entry))) ⌝ }
+    ensures place { λ r. ⌜ FaultPlace r ⌝ }
 {
     let n = message.len();
     let called = p.at + p.called as usize;
@@ -99,6 +101,7 @@ fn options_place(message: &[u8], p: Pointers, data: usize) -> Result<Option<usiz
     requires { ⌜ p .at ≤ 3 ⌝ ∗ ⌜ «data» ≡ dataPlace p ⌝ ∗ ⌜ «data» < length (now message) ⌝ ∗ ⌜ length (now message) ≤ 268 ⌝ }
     ensures value { λ r. ⌜ r ≡ optionsPlace (now (message .entry)) p ⌝ }
     ensures bound { λ r. ⌜ made r (OptionInside (now (message .entry))) ⌝ }
+    ensures place { λ r. ⌜ FaultPlace r ⌝ }
 {
     if p.options == 0 {
         return Ok(None);
@@ -118,6 +121,7 @@ fn read_options(message: &[u8], place: Option<usize>) -> Result<OptionSpan, Read
     requires { ⌜ OptionInside (now message) place ⌝ ∗ ⌜ length (now message) ≤ 268 ⌝ }
     ensures value { λ r. ⌜ r ≡ spanAt (now (message .entry)) place ⌝ }
     ensures bound { λ r. ⌜ made r (SpanInside (now (message .entry))) ⌝ }
+    ensures place { λ r. ⌜ FaultPlace r ⌝ }
 {
     match place {
         None => Ok(OptionSpan {
@@ -142,7 +146,8 @@ fn has_segmentation(span: Result<OptionSpan, ReadFault>) -> bool
 // Addresses and data at their places.
 fn read_parts<'a>(message: &'a [u8], q: Places, segmented: bool) -> Result<Trio<'a>, ReadFault>
     requires { ⌜ Placed (now message) q ⌝ ∗ ⌜ length (now message) ≤ 268 ⌝ }
-    ensures { λ r. ⌜ trioSeen r ≡ partsBody (now (message .entry)) q segmented ⌝ }
+    ensures value { λ r. ⌜ trioSeen r ≡ partsBody (now (message .entry)) q segmented ⌝ }
+    ensures place { λ r. ⌜ FaultPlace r ⌝ }
 {
     let a = message[q.called] as usize;
     let called = Address::new(&message[q.called + 1..q.called + 1 + a]);
@@ -182,7 +187,8 @@ fn read_body<'a>(
     p: Pointers,
 ) -> Result<Message<'a>, ReadFault>
     requires { ⌜ p .at ≤ 3 ⌝ ∗ ⌜ length (now message) ≤ 268 ⌝ }
-    ensures { λ r. ⌜ meaning r ≡ body label form (now (message .entry)) p ⌝ }
+    ensures value { λ r. ⌜ meaning r ≡ body label form (now (message .entry)) p ⌝ }
+    ensures place { λ r. ⌜ FaultPlace r ⌝ }
 {
     let q = read_places(message, p)?;
     let place = options_place(message, p, q.data)?;
@@ -232,7 +238,8 @@ fn check_hop(hop: u8) -> Result<(), ReadFault>
 // A message of 1 to 268 octets behind its label.
 fn read_message<'a>(label: Label, message: &'a [u8]) -> Result<Message<'a>, ReadFault>
     requires { ⌜ length (now message) ≤ 268 ⌝ }
-    ensures { λ r. ⌜ meaning r ≡ messageBody label (now (message .entry)) ⌝ }
+    ensures value { λ r. ⌜ meaning r ≡ messageBody label (now (message .entry)) ⌝ }
+    ensures place { λ r. ⌜ FaultPlace r ⌝ }
 {
     match message {
         [UDT, class, called, calling, data, rest @ ..] => {
@@ -319,6 +326,7 @@ fn read_message<'a>(label: Label, message: &'a [u8]) -> Result<Message<'a>, Read
 // one of the lowest offset.
 pub fn read<'a>(octets: &'a [u8]) -> Result<Message<'a>, ReadFault>
     ensures value { λ r. ⌜ meaning r ≡ parse (now (octets .entry)) ⌝ }
+    ensures place { λ r. ⌜ FaultPlace r ⌝ }
     ensures first_fault { λ r. ⌜ First-fault (now (octets .entry)) (meaning r) ⌝ }
     ensures parts_inside { λ r. ⌜ Parts-inside (now (octets .entry)) (meaning r) ⌝ }
     ensures figures { λ _. ⌜ Udt-figure × Piece-figure ⌝ }

@@ -2,6 +2,7 @@ ghost use mathlib.Core.Path.{_≡_};
 ghost use Prim.Native.Nat.{_≤_};
 ghost use lib.ListN.{length};
 ghost use Rattle.std.specs.Vec.{made};
+ghost use Rattle.message.specs.Faults.{FaultPlace};
 ghost use Rattle.message.specs.Options.{optionSpan, SpanInside};
 use crate::faults::Fault;
 use crate::faults::ReadFault;
@@ -35,6 +36,7 @@ pub(crate) fn scan_options(message: &[u8], start: usize) -> Result<OptionSpan, R
     requires { ⌜ length (now message) ≤ 268 ⌝ ∗ ⌜ start ≤ length (now message) ⌝ }
     ensures value { λ r. ⌜ r ≡ optionSpan (now (message .entry)) start ⌝ }
     ensures bound { λ r. ⌜ made r (SpanInside (now (message .entry))) ⌝ }
+    ensures place { λ r. ⌜ FaultPlace r ⌝ }
 {
     let n = message.len();
     let mut i = start;

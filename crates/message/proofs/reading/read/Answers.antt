@@ -15,11 +15,11 @@ returns-in-len4-up c =
     let x = c .args .octets .now in
     let t = take-rest x 4 in
     let e : meaning (c .read-message .result) ≡ parse x = search needs in
-    record { value = e; first-fault = first-fault x _ e; parts-inside = parts-inside x _ e; figures = (udt-figure, piece-figure) }
+    record { value = e; place = search needs; first-fault = first-fault x _ e; parts-inside = parts-inside x _ e; figures = (udt-figure, piece-figure) }
 
 pub returns-in-rest : need.returns-in-rest
 unfolding parse
 returns-in-rest c =
     let x = c .args .octets .now in
     let e : _≡_ {A = Result Parsed ReadFault} (Err (record { fault = Length; offset = 0 })) (parse x) = search needs in
-    record { value = e; first-fault = first-fault x _ e; parts-inside = parts-inside x _ e; figures = (udt-figure, piece-figure) }
+    record { value = e; place = search needs; first-fault = first-fault x _ e; parts-inside = parts-inside x _ e; figures = (udt-figure, piece-figure) }
