@@ -37,5 +37,10 @@ pub extern "C" fn mezgalt_piece_count(called: u32, calling: u32, length: u32) ->
 pub extern "C" fn mezgalt_piece_length(called: u32, calling: u32, length: u32, index: u32) -> u32
     ensures { λ r. ⌜ r ≡ lengthAnswer called calling length index ⌝ }
 {
-    pieces::piece_length(called as usize, calling as usize, length as usize, index as usize) as u32
+    pieces::piece_length(
+        called as usize,
+        calling as usize,
+        length as usize,
+        index as usize,
+    ) as u32
 }

@@ -18,12 +18,12 @@ enough n p pos =
     ⊎-elim
     (λ (lt : (n + p - 1) / p < q). absurd (omega arith))
     (λ (ge : q ≤ (n + p - 1) / p).
-        ⊎-elim
-        (λ (small : q * p < n).
-            let more : q + 1 ≤ (n + p - 1) / p = le-div-iff-mul-le pos .1 (omega (arith, add-mul q 1 p, one-mul p)) in
-            absurd (omega arith))
-        (λ (big : n ≤ q * p). big)
-        (cases-lt (q * p) n))
+    ⊎-elim
+    (λ (small : q * p < n).
+    let more : q + 1 ≤ (n + p - 1) / p = le-div-iff-mul-le pos .1 (omega (arith, add-mul q 1 p, one-mul p)) in
+    absurd (omega arith))
+    (λ (big : n ≤ q * p). big)
+    (cases-lt (q * p) n))
     (cases-lt ((n + p - 1) / p) q)
 
 -- fewer do not
@@ -108,10 +108,11 @@ even-fit a b n (suc k) i ha hb = (omega arith, even-fit a b n k (i + 1) ha hb)
 adds-up-of : (a b n : ℕ) → a ≤ 32 → b ≤ 32 → 1 ≤ n → (n ≤ inOne a b) ⊎ (inOne a b < n) → (total (lengths a b n) ≡ n) × Some-each (lengths a b n) × Fit a b (optionSize (pieceCount a b n)) (lengths a b n)
 adds-up-of a b n ha hb one (inl w) =
     let c = count-one a b n w in
-    let l : lengths a b n ≡ n ∷ [] = ap (λ k. lengthsFrom a b n k 0) c ∙ ap (λ z. z ∷ []) (cond-true (leb n (inOne a b)) n (min (inPiece a b) (n - 0 * inPiece a b)) (le-leb n (inOne a b) w)) in
-    (ap total l ∙ (omega arith),
-    subst Some-each (sym l) (one, tt),
-    subst (λ k. Fit a b (optionSize k) (lengths a b n)) (sym c) (subst (Fit a b 0) (sym l) (omega arith, tt)))
+    let l : lengths a b n ≡ n ∷ [] = ap (λ k. lengthsFrom a b n k 0) c ∙ ap (λ z. z ∷ []) (cond-true (leb n (inOne a b)) n (min (inPiece a b) (n - 0 * inPiece a b)) (le-leb n (inOne a b) w)) in (
+      ap total l ∙ (omega arith),
+      subst Some-each (sym l) (one, tt),
+      subst (λ k. Fit a b (optionSize k) (lengths a b n)) (sym c) (subst (Fit a b 0) (sym l) (omega arith, tt)),
+    )
 adds-up-of a b n ha hb one (inr w) =
     let p = inPiece a b in
     let q = (n + p - 1) / p in
@@ -123,10 +124,11 @@ adds-up-of a b n ha hb one (inr w) =
     let many : 2 ≤ q = ⊎-elim (λ (h : q < 2). absurd (let k : q * p ≤ 1 * p = mul-le-mul-right p (let j : q ≤ 1 = omega arith in j) in omega (arith, one-mul p))) (λ (h : 2 ≤ q). h) (cases-lt q 2) in
     let s = short n p (q - 1) (omega arith) (omega arith) in
     let y : (0 + q - 1) * p ≡ (q - 1) * p = ap (λ j. j * p) (let x : 0 + q - 1 ≡ q - 1 = omega arith in x) in
-    let o : optionSize (pieceCount a b n) ≡ 7 = cond-false (leb (pieceCount a b n) 1) 0 7 (lt-leb (pieceCount a b n) 1 (omega arith)) in
-    (ap total l ∙ t ∙ (omega arith),
-    subst Some-each (sym l) (even-some p n q 0 (omega arith) (inr (omega arith))),
-    subst (λ k. Fit a b k (lengths a b n)) (sym o) (subst (Fit a b 7) (sym l) (even-fit a b n q 0 ha hb)))
+    let o : optionSize (pieceCount a b n) ≡ 7 = cond-false (leb (pieceCount a b n) 1) 0 7 (lt-leb (pieceCount a b n) 1 (omega arith)) in (
+      ap total l ∙ t ∙ (omega arith),
+      subst Some-each (sym l) (even-some p n q 0 (omega arith) (inr (omega arith))),
+      subst (λ k. Fit a b k (lengths a b n)) (sym o) (subst (Fit a b 7) (sym l) (even-fit a b n q 0 ha hb)),
+    )
 
 pub adds-up : Adds-up
 adds-up a b n ha hb one = adds-up-of a b n ha hb one (order n (inOne a b))

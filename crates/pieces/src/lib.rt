@@ -7,10 +7,15 @@ ghost use Rattle.pieces.specs.Pieces.{pieceCount, inRange, countAnswer, length
 // A line message has at most 272 octets. Label, fixed part, pointers and three length octets
 // take 14 of them; segmentation with its end mark takes 7 more.
 const ONE_MESSAGE: usize = 258;
+
 const ONE_PIECE: usize = 251;
+
 const MOST_UNIT: usize = 3_952;
+
 const MOST_PIECES: usize = 16;
+
 const LEAST_ADDRESS: usize = 2;
+
 const MOST_ADDRESS: usize = 32;
 
 // The number of pieces of a unit that can be sent at all, however many they are.
@@ -19,14 +24,23 @@ fn count_of(called: usize, calling: usize, length: usize) -> usize
     ensures { λ r. ⌜ r ≡ pieceCount called calling length ⌝ }
 {
     let each = ONE_PIECE - called - calling;
-    if length <= ONE_MESSAGE - called - calling { 1 } else { (length + each - 1) / each }
+    if length <= ONE_MESSAGE - called - calling {
+        1
+    } else {
+        (length + each - 1) / each
+    }
 }
 
 // Whether addresses and unit have lengths that can be sent.
 fn in_range(called: usize, calling: usize, length: usize) -> bool
     ensures { λ r. ⌜ r ≡ inRange called calling length ⌝ }
 {
-    LEAST_ADDRESS <= called && called <= MOST_ADDRESS && LEAST_ADDRESS <= calling && calling <= MOST_ADDRESS && 1 <= length && length <= MOST_UNIT
+    LEAST_ADDRESS <= called
+        && called <= MOST_ADDRESS
+        && LEAST_ADDRESS <= calling
+        && calling <= MOST_ADDRESS
+        && 1 <= length
+        && length <= MOST_UNIT
 }
 
 fn count_or_none(called: usize, calling: usize, length: usize) -> usize
@@ -50,7 +64,11 @@ fn length_or_none(called: usize, calling: usize, length: usize, index: usize) ->
         return 0;
     }
     let each = ONE_PIECE - called - calling;
-    if length <= ONE_MESSAGE - called - calling { length } else { each.min(length.saturating_sub(index * each)) }
+    if length <= ONE_MESSAGE - called - calling {
+        length
+    } else {
+        each.min(length.saturating_sub(index * each))
+    }
 }
 
 // In how many messages a unit of so many octets goes out, between a called and a calling
