@@ -1,7 +1,9 @@
 // Mezgalt's program: plays a script of commands, one a line, and tells what each did. The
 // script comes from the file that the first argument names, or from the standard input.
+mod lines_used;
 mod messages_shown;
 mod scripts;
+mod words;
 
 use scripts::Desk;
 use std::env;

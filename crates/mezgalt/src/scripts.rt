@@ -1,6 +1,9 @@
 // A script: one command a line; what stands behind a `#` is a comment.
+use crate::lines_used;
+use crate::lines_used::AnyLine;
 use crate::messages_shown;
-use hex::NoOctets;
+use crate::words;
+use crate::words::BadLine;
 use std::alloc::Global;
 use std::error::AnyError;
 
@@ -8,104 +11,64 @@ use std::error::AnyError;
 #[derive(Drop)]
 pub struct Desk {
     heap: Global,
-    line: u64,
-}
-
-// Why a line of a script is no command.
-#[derive(Clone, Copy)]
-enum BadLine {
-    Unknown,
-    NeedsHex,
-    NotHex,
-    TooManyWords,
-    NoMemory,
+    number: u64,
+    line: Option<AnyLine>,
 }
 
 impl Desk {
     pub fn new(heap: Global) -> Desk {
-        Desk { heap, line: 0 }
+        Desk {
+            heap,
+            number: 0,
+            line: None,
+        }
     }
 }
 
-fn words_of(bad: BadLine) -> &'static str {
-    match bad {
-        BadLine::Unknown => "unknown command; `help` lists the commands",
-        BadLine::NeedsHex => "octets in hexadecimal are wanted behind the command",
-        BadLine::NotHex => "the octets are not hexadecimal, two digits each, or `-` for none",
-        BadLine::TooManyWords => "there are more words than the command takes",
-        BadLine::NoMemory => "there is no memory for it",
-    }
-}
-
-fn tell_bad(rt: &LibcRuntime, desk: &Desk, bad: BadLine) -> Result<(), AnyError> {
-    let line = desk.line;
-    let words = words_of(bad);
-    println!(rt, "error: line {line}: {words}")?;
+fn tell_bad(rt: &LibcRuntime, number: u64, bad: BadLine) -> Result<(), AnyError> {
+    let words = bad.words();
+    println!(rt, "error: line {number}: {words}")?;
     Ok(())
 }
 
 fn help(rt: &LibcRuntime) -> Result<(), AnyError> {
-    println!(
-        rt,
-        "help: one command a line; what stands behind a # is a comment; - stands for no octets"
-    )?;
-    println!(
-        rt,
-        "  read HEX   tells what a line message is, its label included, or why it is refused"
-    )?;
-    println!(rt, "  help       lists the commands")?;
+    println!(rt, "help: one command a line; what stands behind a # is a comment; - stands for no octets")?;
+    println!(rt, "  read HEX            tells what a line message is, its label included, or why it is refused")?;
+    println!(rt, "  line cell OCTETS    opens a line of cells in an area of so many octets")?;
+    println!(rt, "  line packed OCTETS  opens a packed line")?;
+    println!(rt, "  put HEX             puts a message on the line")?;
+    println!(rt, "  take                takes the oldest message from the line")?;
+    println!(rt, "  places              tells how many places the line has left")?;
+    println!(rt, "  help                lists the commands")?;
     Ok(())
 }
 
-// The one word behind a command.
-fn only_word(rest: &str) -> Result<&str, BadLine> {
-    let mut words = rest.split_whitespace();
-    match (words.next(), words.next()) {
-        (None, _) => Err(BadLine::NeedsHex),
-        (Some(word), None) => Ok(word),
-        (Some(_), Some(_)) => Err(BadLine::TooManyWords),
-    }
-}
-
-fn octets_behind(heap: Global, rest: &str) -> Result<Vec<u8>, BadLine> {
-    match hex::octets_of(heap, only_word(rest)?) {
-        Ok(octets) => Ok(octets),
-        Err(NoOctets::NotHexadecimal) => Err(BadLine::NotHex),
-        Err(NoOctets::NoMemory) => Err(BadLine::NoMemory),
-    }
-}
-
-fn read(rt: &LibcRuntime, desk: &Desk, rest: &str) -> Result<(), AnyError> {
-    match octets_behind(desk.heap, rest) {
-        Ok(octets) => messages_shown::tell(rt, octets.as_slice()),
-        Err(bad) => tell_bad(rt, desk, bad),
-    }
-}
-
-// The first word of a line, and what stands behind it.
-fn parted(line: &str) -> (&str, &str) {
-    let line = line.trim();
-    match line.split_once(' ') {
-        Some((word, rest)) => (word, rest),
-        None => (line, ""),
-    }
-}
-
-fn before_comment(line: &str) -> &str {
-    match line.split_once('#') {
-        Some((command, _)) => command,
-        None => line,
+fn read(rt: &LibcRuntime, heap: Global, rest: &str) -> Result<Result<(), BadLine>, AnyError> {
+    match words::octets_behind(heap, rest) {
+        Ok(octets) => {
+            messages_shown::tell(rt, octets.as_slice())?;
+            Ok(Ok(()))
+        }
+        Err(bad) => Ok(Err(bad)),
     }
 }
 
 // Carries out one line of a script.
 pub fn play(rt: &LibcRuntime, desk: &mut Desk, line: &str) -> Result<(), AnyError> {
-    desk.line = desk.line.saturating_add(1);
-    let (word, rest) = parted(before_comment(line));
-    match word {
+    desk.number = desk.number.saturating_add(1);
+    let (word, rest) = words::parted(words::before_comment(line));
+    let done = match word {
         "" => Ok(()),
-        "read" => read(rt, desk, rest),
-        "help" => help(rt),
-        _ => tell_bad(rt, desk, BadLine::Unknown),
+        "read" => read(rt, desk.heap, rest)?,
+        "line" | "put" | "take" | "places" => lines_used::play(rt, &mut desk.line, word, rest)?,
+        "help" => {
+            help(rt)?;
+            Ok(())
+        }
+        _ => Err(BadLine::Unknown),
+    };
+    match done {
+        Ok(()) => Ok(()),
+        Err(bad) => tell_bad(rt, desk.number, bad),
     }
 }
