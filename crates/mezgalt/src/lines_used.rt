@@ -126,8 +126,14 @@ fn places(held: &Option<AnyLine>, rest: &str) -> Result<LineAnswer, BadLine> {
 
 fn tell(rt: &LibcRuntime, answer: LineAnswer) -> Result<(), AnyError> {
     match answer {
-        LineAnswer::Opened(name, octets, places) => println!(rt, "line: {name} of {octets} octets, {places} places")?,
-        LineAnswer::Put(octets, places) => println!(rt, "put: {octets} octets, {places} places left")?,
+        LineAnswer::Opened(name, octets, places) => println!(
+            rt,
+            "line: {name} of {octets} octets, {places} places"
+        )?,
+        LineAnswer::Put(octets, places) => println!(
+            rt,
+            "put: {octets} octets, {places} places left"
+        )?,
         LineAnswer::Taken(message) => {
             let text = hex::text_of(rt.alloc(), message.as_slice())?;
             println!(rt, "take: {text}")?;
@@ -142,7 +148,12 @@ fn tell(rt: &LibcRuntime, answer: LineAnswer) -> Result<(), AnyError> {
 }
 
 // Carries out a command on a line; `word` is one of the four.
-pub fn play(rt: &LibcRuntime, held: &mut Option<AnyLine>, word: &str, rest: &str) -> Result<Result<(), BadLine>, AnyError> {
+pub fn play(
+    rt: &LibcRuntime,
+    held: &mut Option<AnyLine>,
+    word: &str,
+    rest: &str,
+) -> Result<Result<(), BadLine>, AnyError> {
     let done = match word {
         "line" => open(rt.alloc(), held, rest),
         "put" => put(rt.alloc(), held, rest),

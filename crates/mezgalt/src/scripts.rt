@@ -32,13 +32,46 @@ fn tell_bad(rt: &LibcRuntime, number: u64, bad: BadLine) -> Result<(), AnyError>
 }
 
 fn help(rt: &LibcRuntime) -> Result<(), AnyError> {
-    println!(rt, "help: one command a line; what stands behind a # is a comment; - stands for no octets")?;
-    println!(rt, "  read HEX            tells what a line message is, its label included, or why it is refused")?;
-    println!(rt, "  line cell OCTETS    opens a line of cells in an area of so many octets")?;
+    println!(
+        rt,
+        "help: one command a line; what stands behind a # is a comment; - stands for no octets"
+    )?;
+    println!(
+        rt,
+        "  read HEX            tells what a line message is, its label included, or why it is refused"
+    )?;
+    println!(
+        rt,
+        "  line cell OCTETS    opens a line of cells in an area of so many octets"
+    )?;
     println!(rt, "  line packed OCTETS  opens a packed line")?;
     println!(rt, "  put HEX             puts a message on the line")?;
-    println!(rt, "  take                takes the oldest message from the line")?;
-    println!(rt, "  places              tells how many places the line has left")?;
+    println!(
+        rt,
+        "  take                takes the oldest message from the line"
+    )?;
+    println!(
+        rt,
+        "  places              tells how many places the line has left"
+    )?;
+    println!(
+        rt,
+        "  slots code=N ticks=N records=N store=N   opens slots, to which the commands below belong"
+    )?;
+    println!(
+        rt,
+        "  piece mark=N,N,.. first=yes|no remaining=N data=HEX   gives a piece"
+    )?;
+    println!(rt, "  tick [N]            one tick, or so many")?;
+    println!(
+        rt,
+        "  copy SLOT [OCTETS]  copies the unit of a slot, into a buffer of so many octets"
+    )?;
+    println!(rt, "  release SLOT        frees a slot")?;
+    println!(
+        rt,
+        "  account             what was opened, handed up, broken, lapsed, and is open"
+    )?;
     println!(rt, "  help                lists the commands")?;
     Ok(())
 }
@@ -53,22 +86,38 @@ fn read(rt: &LibcRuntime, heap: Global, rest: &str) -> Result<Result<(), BadLine
     }
 }
 
-// Carries out one line of a script.
-pub fn play(rt: &LibcRuntime, desk: &mut Desk, line: &str) -> Result<(), AnyError> {
+// One more line of the script begins.
+pub fn begin(desk: &mut Desk) {
     desk.number = desk.number.saturating_add(1);
+}
+
+// Whether a line opens slots.
+pub fn opens_slots(line: &str) -> bool {
+    let (word, _) = words::parted(words::before_comment(line));
+    word == "slots"
+}
+
+// Tells what was wrong with a line that was no command.
+pub fn finish(rt: &LibcRuntime, desk: &Desk, done: Result<(), BadLine>) -> Result<(), AnyError> {
+    match done {
+        Ok(()) => Ok(()),
+        Err(bad) => tell_bad(rt, desk.number, bad),
+    }
+}
+
+// Carries out one line of a script that needs no slots.
+pub fn play(rt: &LibcRuntime, desk: &mut Desk, line: &str) -> Result<(), AnyError> {
     let (word, rest) = words::parted(words::before_comment(line));
     let done = match word {
         "" => Ok(()),
         "read" => read(rt, desk.heap, rest)?,
         "line" | "put" | "take" | "places" => lines_used::play(rt, &mut desk.line, word, rest)?,
+        "piece" | "tick" | "copy" | "release" | "account" => Err(BadLine::NoSlots),
         "help" => {
             help(rt)?;
             Ok(())
         }
         _ => Err(BadLine::Unknown),
     };
-    match done {
-        Ok(()) => Ok(()),
-        Err(bad) => tell_bad(rt, desk.number, bad),
-    }
+    finish(rt, desk, done)
 }

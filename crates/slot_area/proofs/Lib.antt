@@ -1,0 +1,4 @@
+pub mod Loads
+pub mod Sounds
+pub mod Sim
+pub mod Rest

@@ -1,0 +1,4 @@
+pub mod Marks
+pub mod StationMarks
+pub mod Table
+pub mod Tables
