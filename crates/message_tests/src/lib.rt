@@ -11,10 +11,15 @@ mod tests {
     use message::FormDebug;
     use message::FormPartialEq;
     use message::OptionPart;
+    use message::Options;
+    use message::Parts;
     use message::Segmentation;
     use message::SegmentationDebug;
     use message::SegmentationPartialEq;
     use std::test::*;
+    use writing::WriteRefusal;
+    use writing::WriteRefusalDebug;
+    use writing::WriteRefusalPartialEq;
 
     // Octets in hexadecimal, and the number and offset of the fault; 0 where they are a message.
     static CASES: [(&str, u8, usize); 48] = [
@@ -248,5 +253,123 @@ mod tests {
         let empty = Address::new(&[0x80]);
         check(empty.is_empty() && !empty.is_good())?;
         check(!Address::new(&[0x40]).is_empty())
+    }
+
+    // Octets that are read, and the octets that what was read is then written as.
+    static REWRITTEN: [(&str, &str); 11] = [
+        // without gaps: as they were
+        (
+            "05400230090003050702420802420603a1a2a3",
+            "05400230090003050702420802420603a1a2a3",
+        ),
+        (
+            "05400230098103050702420802420603a1a2a3",
+            "05400230098103050702420802420603a1a2a3",
+        ),
+        (
+            "054002300a0c030506024208010001d1",
+            "054002300a0c030506024208010001d1",
+        ),
+        (
+            "0540023011010f0406080002420802420603a1a2a3",
+            "0540023011010f0406080002420802420603a1a2a3",
+        ),
+        (
+            "0540023011010f0406080a02420802420602d1d210048107000000",
+            "0540023011010f0406080a02420802420602d1d210048107000000",
+        ),
+        // options that are only the end mark
+        (
+            "054002301100010406080a02420802420602d1d200",
+            "054002301100010406080a02420802420602d1d200",
+        ),
+        (
+            "05400230120c050406080002420802420602d1d2",
+            "05400230120c050406080002420802420602d1d2",
+        ),
+        (
+            "0540023012050a0406080a02420802420602d1d21201ff00",
+            "0540023012050a0406080a02420802420602d1d21201ff00",
+        ),
+        (
+            "054002300900030c0e0953341208001204214302420601a1",
+            "054002300900030c0e0953341208001204214302420601a1",
+        ),
+        // a gap behind the called address goes, and so does a tail
+        (
+            "054002300900030608024208ee02420601a1",
+            "05400230090003050702420802420601a1",
+        ),
+        (
+            "05400230090003050702420802420603a1a2a3ffff",
+            "05400230090003050702420802420603a1a2a3",
+        ),
+    ];
+
+    #[test]
+    fn what_was_read_is_written_without_gaps(rt: LibcRuntime) -> Result<(), Fail> {
+        let mut buffer = [0xeeu8; 300];
+        for case in REWRITTEN.iter() {
+            let (given, wanted) = *case;
+            let octets = hex::octets_of(rt.alloc(), given)?;
+            let wanted = hex::octets_of(rt.alloc(), wanted)?;
+            let Ok(m) = message::read(octets.as_slice()) else {
+                return Err(Fail::new(given));
+            };
+            let n = writing::write(m.parts(), &mut buffer)?;
+            check(n <= buffer.len() && &buffer[0..n] == wanted.as_slice()).note(given)?;
+        }
+        Ok(())
+    }
+
+    #[test]
+    fn writing_is_refused_and_leaves_the_buffer() -> Result<(), Fail> {
+        let long = [0xddu8; 256];
+        let mut buffer = [0xeeu8; 300];
+        let label = Label {
+            dpc: 5,
+            opc: 9,
+            sls: 3,
+        };
+        let called = Address::new(&[0x42, 8]);
+        let calling = Address::new(&[0x42, 6]);
+        let form = Form::Xudt { class: 0, hop: 15 };
+        let unit = Parts {
+            label,
+            form,
+            called,
+            calling,
+            data: &long[0..248],
+            options: Options::new(&[0]),
+        };
+        check_eq(
+            writing::write(unit, &mut buffer),
+            Err(WriteRefusal::PointerTooFar),
+        )?;
+        let unit = Parts {
+            label,
+            form: Form::Udt { class: 0 },
+            called,
+            calling,
+            data: &long,
+            options: Options::new(&[]),
+        };
+        check_eq(
+            writing::write(unit, &mut buffer),
+            Err(WriteRefusal::TooLong),
+        )?;
+        let unit = Parts {
+            label,
+            form,
+            called,
+            calling,
+            data: &[1, 2, 3],
+            options: Options::new(&[]),
+        };
+        check_eq(
+            writing::write(unit, &mut buffer[0..20]),
+            Err(WriteRefusal::ShortBuffer),
+        )?;
+        check(buffer == [0xeeu8; 300])
     }
 }

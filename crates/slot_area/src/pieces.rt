@@ -50,15 +50,15 @@ impl<'a, K: Mark + Drop> SlotArea<'a, K> {
     }
 
     // Data into the stretch of a slot, from offset `at` on.
-    pub(crate) fn fill(&mut self, slot: usize, at: usize, unit: &[u8])
-        requires { ⌜ Sound (now self) ⌝ ∗ ⌜ slot < length (now (now self .table .entries)) ⌝ ∗ ⌜ at + length (now unit) ≤ 3952 ⌝ }
+    pub(crate) fn fill(&mut self, slot: usize, at: usize, contents: &[u8])
+        requires { ⌜ Sound (now self) ⌝ ∗ ⌜ slot < length (now (now self .table .entries)) ⌝ ∗ ⌜ at + length (now contents) ≤ 3952 ⌝ }
         ensures sound { λ _. ⌜ Sound (now (self .exit)) ⌝ }
         ensures after { λ _. ⌜ Became (now (self .entry)) (now (self .exit))
             (now (now (self .entry) .table .entries))
-            (overwritten (slot * 3952 + at) (now (unit .entry)) (now (now (self .entry) .store .octets))) ⌝ }
+            (overwritten (slot * 3952 + at) (now (contents .entry)) (now (now (self .entry) .store .octets))) ⌝ }
     {
         let place = offset(slot, at);
-        self.store.write(place, unit);
+        self.store.write(place, contents);
     }
 
     pub(crate) fn put_entry(&mut self, slot: usize, entry: Entry<K, Load>)
@@ -82,17 +82,23 @@ impl<'a, K: Mark + Drop> SlotArea<'a, K> {
     }
 
     // Does what was decided.
-    fn act<'d>(&mut self, step: Step, settings: Settings, key: K, unit: &'d [u8]) -> PieceAnswer<'d>
-        requires { ⌜ Sound (now self) ⌝ ∗ ⌜ Fit step (length (now unit)) (length (now (now self .table .entries))) ⌝ }
+    fn act<'d>(
+        &mut self,
+        step: Step,
+        settings: Settings,
+        key: K,
+        contents: &'d [u8],
+    ) -> PieceAnswer<'d>
+        requires { ⌜ Sound (now self) ⌝ ∗ ⌜ Fit step (length (now contents)) (length (now (now self .table .entries))) ⌝ }
         ensures sound { λ _. ⌜ Sound (now (self .exit)) ⌝ }
-        ensures value { λ r. ⌜ answered r ≡ answerOf (settings .code) step (lastFrom isFree 0 None (now (now (self .entry) .table .entries))) (now (now (self .entry) .table .entries)) (now (unit .entry)) ⌝ }
+        ensures value { λ r. ⌜ answered r ≡ answerOf (settings .code) step (lastFrom isFree 0 None (now (now (self .entry) .table .entries))) (now (now (self .entry) .table .entries)) (now (contents .entry)) ⌝ }
         ensures after { λ _. ⌜ Became (now (self .entry)) (now (self .exit))
             (entriesAfter step (lastFrom isFree 0 None (now (now (self .entry) .table .entries))) key (settings .ticks) (now (now (self .entry) .table .entries)))
-            (octetsAfter step (lastFrom isFree 0 None (now (now (self .entry) .table .entries))) (now (unit .entry)) (now (now (self .entry) .store .octets))) ⌝ }
+            (octetsAfter step (lastFrom isFree 0 None (now (now (self .entry) .table .entries))) (now (contents .entry)) (now (now (self .entry) .store .octets))) ⌝ }
     {
         let ticks = settings.ticks();
         match step {
-            Step::Alone => PieceAnswer::Alone { unit },
+            Step::Alone => PieceAnswer::Alone { unit: contents },
             Step::Stray => PieceAnswer::Stray,
             Step::Break { slot } => {
                 self.put_entry(slot, Entry::Free);
@@ -100,7 +106,7 @@ impl<'a, K: Mark + Drop> SlotArea<'a, K> {
             }
             Step::Open { load } => match self.table.last_free() {
                 Some(slot) => {
-                    self.fill(slot, 0, unit);
+                    self.fill(slot, 0, contents);
                     self.put_entry(slot, Entry::Timed { key, ticks, load });
                     PieceAnswer::Opened { slot }
                 }
@@ -108,17 +114,17 @@ impl<'a, K: Mark + Drop> SlotArea<'a, K> {
                 None => PieceAnswer::NoneFree,
             },
             Step::Restart { slot, load } => {
-                self.fill(slot, 0, unit);
+                self.fill(slot, 0, contents);
                 self.put_entry(slot, Entry::Timed { key, ticks, load });
                 PieceAnswer::Restarted { slot }
             }
             Step::Hold { slot, load } => {
-                self.fill(slot, load.len as usize - unit.len(), unit);
+                self.fill(slot, load.len as usize - contents.len(), contents);
                 self.reload_slot(slot, load);
                 PieceAnswer::Held { slot }
             }
             Step::Finish { slot, load } => {
-                self.fill(slot, load.len as usize - unit.len(), unit);
+                self.fill(slot, load.len as usize - contents.len(), contents);
                 self.put_entry(slot, Entry::Held { load });
                 let receipt = Receipt::of(settings, slot, load.len);
                 PieceAnswer::HandedUp { receipt }
@@ -133,23 +139,23 @@ impl<'a, K: Mark + Drop> SlotArea<'a, K> {
         key: K,
         first: bool,
         remaining: u8,
-        unit: &'d [u8],
+        contents: &'d [u8],
     ) -> Result<PieceAnswer<'d>, PieceRefusal>
         requires { ⌜ Sound (now self) ⌝ }
         ensures sound { λ _. ⌜ Sound (now (self .exit)) ⌝ }
-        ensures value { λ r. ⌜ pieceReply r ≡ pieceAnswer numbers key first remaining (now (unit .entry)) (now (now (self .entry) .table .entries)) (settings .code) ⌝ }
+        ensures value { λ r. ⌜ pieceReply r ≡ pieceAnswer numbers key first remaining (now (contents .entry)) (now (now (self .entry) .table .entries)) (settings .code) ⌝ }
         ensures after { λ _. ⌜ Became (now (self .entry)) (now (self .exit))
-            (pieceEntries numbers key first remaining (now (unit .entry)) (now (now (self .entry) .table .entries)) (settings .ticks))
-            (pieceOctets numbers key first remaining (now (unit .entry)) (now (now (self .entry) .table .entries)) (now (now (self .entry) .store .octets))) ⌝ }
+            (pieceEntries numbers key first remaining (now (contents .entry)) (now (now (self .entry) .table .entries)) (settings .ticks))
+            (pieceOctets numbers key first remaining (now (contents .entry)) (now (now (self .entry) .table .entries)) (now (now (self .entry) .store .octets))) ⌝ }
         ensures idle { λ r. ⌜ Cases r (λ _. Unit {0}) (λ _. now (self .exit) ≡ now (self .entry)) ⌝ }
     {
-        let len = unit.len();
+        let len = contents.len();
         if remaining > REMAINING_MOST || len == 0 || len > DATA_MOST {
             return Err(PieceRefusal::OutOfRange);
         }
         let found = self.find_open(&key);
         let step = decide(found, first, remaining, len);
-        Ok(self.act(step, settings, key, unit))
+        Ok(self.act(step, settings, key, contents))
     }
 
     // Takes in one piece.
@@ -159,17 +165,17 @@ impl<'a, K: Mark + Drop> SlotArea<'a, K> {
         key: K,
         first: bool,
         remaining: u8,
-        unit: &'d [u8],
+        contents: &'d [u8],
     ) -> Result<PieceAnswer<'d>, PieceRefusal>
         requires { ⌜ Sound (now self) ⌝ }
         ensures sound { λ _. ⌜ Sound (now (self .exit)) ⌝ }
-        ensures answer { λ r. ⌜ pieceReply r ≡ step (settings .code) (settings .ticks) (view numbers (now (self .entry))) (pieceEvent (numbers key) first remaining (now (unit .entry))) .1 ⌝ }
-        ensures seen { λ _. ⌜ view numbers (now (self .exit)) ≡ step (settings .code) (settings .ticks) (view numbers (now (self .entry))) (pieceEvent (numbers key) first remaining (now (unit .entry))) .0 ⌝ }
+        ensures answer { λ r. ⌜ pieceReply r ≡ step (settings .code) (settings .ticks) (view numbers (now (self .entry))) (pieceEvent (numbers key) first remaining (now (contents .entry))) .1 ⌝ }
+        ensures seen { λ _. ⌜ view numbers (now (self .exit)) ≡ step (settings .code) (settings .ticks) (view numbers (now (self .entry))) (pieceEvent (numbers key) first remaining (now (contents .entry))) .0 ⌝ }
         ensures after { λ _. ⌜ Became (now (self .entry)) (now (self .exit))
-            (pieceEntries numbers key first remaining (now (unit .entry)) (now (now (self .entry) .table .entries)) (settings .ticks))
-            (pieceOctets numbers key first remaining (now (unit .entry)) (now (now (self .entry) .table .entries)) (now (now (self .entry) .store .octets))) ⌝ }
+            (pieceEntries numbers key first remaining (now (contents .entry)) (now (now (self .entry) .table .entries)) (settings .ticks))
+            (pieceOctets numbers key first remaining (now (contents .entry)) (now (now (self .entry) .table .entries)) (now (now (self .entry) .store .octets))) ⌝ }
         ensures idle { λ r. ⌜ Cases r (λ _. Unit {0}) (λ _. now (self .exit) ≡ now (self .entry)) ⌝ }
     {
-        self.place(settings, key, first, remaining, unit)
+        self.place(settings, key, first, remaining, contents)
     }
 }

@@ -56,17 +56,18 @@ impl<'a, K: Mark + Drop> Slots<'a, K> {
         key: K,
         first: bool,
         remaining: u8,
-        unit: &'d [u8],
+        contents: &'d [u8],
     ) -> Result<PieceAnswer<'d>, PieceRefusal>
-        ensures answer { λ r. ⌜ pieceReply r ≡ stepOf numbers (now (self .entry)) (pieceEvent (numbers key) first remaining (now (unit .entry))) .1 ⌝ }
-        ensures seen { λ _. ⌜ seen numbers (now (self .exit)) ≡ stepOf numbers (now (self .entry)) (pieceEvent (numbers key) first remaining (now (unit .entry))) .0 ⌝ }
+        ensures answer { λ r. ⌜ pieceReply r ≡ stepOf numbers (now (self .entry)) (pieceEvent (numbers key) first remaining (now (contents .entry))) .1 ⌝ }
+        ensures seen { λ _. ⌜ seen numbers (now (self .exit)) ≡ stepOf numbers (now (self .entry)) (pieceEvent (numbers key) first remaining (now (contents .entry))) .0 ⌝ }
         ensures after { λ _. ⌜ Became (now (self .entry) .area) (now (self .exit) .area)
-            (pieceEntries numbers key first remaining (now (unit .entry)) (now (now (self .entry) .area .table .entries)) (now (self .entry) .settings .ticks))
-            (pieceOctets numbers key first remaining (now (unit .entry)) (now (now (self .entry) .area .table .entries)) (now (now (self .entry) .area .store .octets))) ⌝ }
+            (pieceEntries numbers key first remaining (now (contents .entry)) (now (now (self .entry) .area .table .entries)) (now (self .entry) .settings .ticks))
+            (pieceOctets numbers key first remaining (now (contents .entry)) (now (now (self .entry) .area .table .entries)) (now (now (self .entry) .area .store .octets))) ⌝ }
         ensures settings { λ _. ⌜ now (self .exit) .settings ≡ now (self .entry) .settings ⌝ }
         ensures idle { λ r. ⌜ Cases r (λ _. Unit {0}) (λ _. now (self .exit) ≡ now (self .entry)) ⌝ }
     {
-        self.area.piece(self.settings, key, first, remaining, unit)
+        self.area
+            .piece(self.settings, key, first, remaining, contents)
     }
 
     // One tick: takes one from every open slot and frees those at 0. Answers how many lapsed.

@@ -15,7 +15,7 @@ returns g c =
     let w : length (now (c .write .last .self .octets)) ≡ length (now (old .store .octets)) = c .write .ensures .len in
     record {
       sound = sound-made _ (p .0, (omega arith, (p .2, tt)));
-      after = record { table = refl; store = c .write .ensures .after ∙ ap (λ k. overwritten k (now (c .args .unit)) (now (old .store .octets))) (c .offset-place .ensures); beyond = refl; entries-lender = refl; octets-lender = c .write .ensures .lender; beyond-lender = refl };
+      after = record { table = refl; store = c .write .ensures .after ∙ ap (λ k. overwritten k (now (c .args .contents)) (now (old .store .octets))) (c .offset-place .ensures); beyond = refl; entries-lender = refl; octets-lender = c .write .ensures .lender; beyond-lender = refl };
     }
 
 pub offset-place-requires : need.offset-place-requires

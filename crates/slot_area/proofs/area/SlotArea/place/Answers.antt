@@ -9,7 +9,7 @@ use Rattle.slot_area.proofs.area.SlotArea.place.Needs as need
 
 pub act-requires : need.act-requires
 act-requires g c κs =
-    let k = length (now (c .args .unit)) in
+    let k = length (now (c .args .contents)) in
     let n = length (now (c .args .self .now .table .entries)) in
     let f = c .find-open-found in (
       c .pre,

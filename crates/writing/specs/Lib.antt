@@ -1,0 +1,2 @@
+pub mod Write
+pub mod RoundTrip
