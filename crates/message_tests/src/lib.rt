@@ -306,70 +306,83 @@ mod tests {
         ),
     ];
 
+    // Whether octets are read, and what was read is written as wanted.
+    fn is_rewritten(octets: &[u8], wanted: &[u8]) -> bool {
+        let mut buffer = [0xeeu8; 300];
+        let Ok(m) = message::read(octets) else {
+            return false;
+        };
+        let Ok(n) = writing::write(m.parts(), &mut buffer) else {
+            return false;
+        };
+        match buffer.get(0..n) {
+            Some(part) => part == wanted,
+            None => false,
+        }
+    }
+
     #[test]
     fn what_was_read_is_written_without_gaps(rt: LibcRuntime) -> Result<(), Fail> {
-        let mut buffer = [0xeeu8; 300];
         for case in REWRITTEN.iter() {
             let (given, wanted) = *case;
             let octets = hex::octets_of(rt.alloc(), given)?;
             let wanted = hex::octets_of(rt.alloc(), wanted)?;
-            let Ok(m) = message::read(octets.as_slice()) else {
-                return Err(Fail::new(given));
-            };
-            let n = writing::write(m.parts(), &mut buffer)?;
-            check(n <= buffer.len() && &buffer[0..n] == wanted.as_slice()).note(given)?;
+            check(is_rewritten(octets.as_slice(), wanted.as_slice())).note(given)?;
         }
         Ok(())
     }
 
-    #[test]
-    fn writing_is_refused_and_leaves_the_buffer() -> Result<(), Fail> {
-        let long = [0xddu8; 256];
+    // What writing a message to 8 from 6 into so many octets answers, and whether the octets stayed.
+    fn written<'x>(
+        form: Form,
+        data: &'x [u8],
+        options: &'x [u8],
+        room: usize,
+    ) -> (Result<usize, WriteRefusal>, bool) {
         let mut buffer = [0xeeu8; 300];
+        let called = Address::new(&[0x42, 8]);
+        let calling = Address::new(&[0x42, 6]);
         let label = Label {
             dpc: 5,
             opc: 9,
             sls: 3,
         };
-        let called = Address::new(&[0x42, 8]);
-        let calling = Address::new(&[0x42, 6]);
+        let options = Options::new(options);
+        let out = if room < 300 {
+            &mut buffer[0..room]
+        } else {
+            &mut buffer[0..300]
+        };
+        let answer = writing::write(
+            Parts {
+                label,
+                form,
+                called,
+                calling,
+                data,
+                options,
+            },
+            out,
+        );
+        (answer, buffer == [0xeeu8; 300])
+    }
+
+    #[test]
+    fn writing_is_refused_and_leaves_the_buffer() -> Result<(), Fail> {
+        let long = [0xddu8; 256];
         let form = Form::Xudt { class: 0, hop: 15 };
-        let unit = Parts {
-            label,
-            form,
-            called,
-            calling,
-            data: &long[0..248],
-            options: Options::new(&[0]),
-        };
         check_eq(
-            writing::write(unit, &mut buffer),
-            Err(WriteRefusal::PointerTooFar),
+            written(form, &long[0..248], &[0], 300),
+            (Err(WriteRefusal::PointerTooFar), true),
         )?;
-        let unit = Parts {
-            label,
-            form: Form::Udt { class: 0 },
-            called,
-            calling,
-            data: &long,
-            options: Options::new(&[]),
-        };
         check_eq(
-            writing::write(unit, &mut buffer),
-            Err(WriteRefusal::TooLong),
+            written(Form::Udt { class: 0 }, &long, &[], 300),
+            (Err(WriteRefusal::TooLong), true),
         )?;
-        let unit = Parts {
-            label,
-            form,
-            called,
-            calling,
-            data: &[1, 2, 3],
-            options: Options::new(&[]),
-        };
         check_eq(
-            writing::write(unit, &mut buffer[0..20]),
-            Err(WriteRefusal::ShortBuffer),
+            written(form, &[1, 2, 3], &[], 20),
+            (Err(WriteRefusal::ShortBuffer), true),
         )?;
-        check(buffer == [0xeeu8; 300])
+        check_eq(written(form, &[1, 2, 3], &[], 21), (Ok(21), false))
     }
 }
