@@ -7,6 +7,7 @@ mod list_marks;
 mod messages_shown;
 mod scripts;
 mod slots_used;
+mod tables_used;
 mod words;
 
 use failing::Failed;

@@ -45,22 +45,25 @@ fn digit_char(d: u8) -> char {
     }
 }
 
+pub fn print_digits(rt: &LibcRuntime, digits: &[u8]) -> Result<(), AnyError> {
+    print!(rt, " digits=")?;
+    for d in digits {
+        let c = digit_char(*d);
+        print!(rt, "{c}")?;
+    }
+    Ok(())
+}
+
 // The digits of a title, or its octets where it does not tell how many digits they are.
 fn tell_digits(rt: &LibcRuntime, title: Title, octets: &[u8]) -> Result<(), AnyError> {
     match title.digits() {
-        Some(digits) => {
-            print!(rt, " digits=")?;
-            for d in digits.as_slice() {
-                let c = digit_char(*d);
-                print!(rt, "{c}")?;
-            }
-        }
+        Some(digits) => print_digits(rt, digits.as_slice()),
         None => {
             let text = hex::text_of(rt.alloc(), octets)?;
             print!(rt, " octets={text}")?;
+            Ok(())
         }
     }
-    Ok(())
 }
 
 fn tell_title(rt: &LibcRuntime, title: Title) -> Result<(), AnyError> {
@@ -93,7 +96,7 @@ fn tell_title(rt: &LibcRuntime, title: Title) -> Result<(), AnyError> {
 }
 
 // An address on a line of its own: how it is routed, and what it holds.
-fn tell_address(rt: &LibcRuntime, name: &str, a: Address) -> Result<(), AnyError> {
+pub fn tell_address(rt: &LibcRuntime, name: &str, a: Address) -> Result<(), AnyError> {
     if a.is_empty() {
         println!(rt, "  {name}: empty")?;
         return Ok(());

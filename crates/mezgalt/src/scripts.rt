@@ -2,6 +2,8 @@
 use crate::lines_used;
 use crate::lines_used::AnyLine;
 use crate::messages_shown;
+use crate::tables_used;
+use crate::tables_used::Tables;
 use crate::words;
 use crate::words::BadLine;
 use std::alloc::Global;
@@ -13,6 +15,7 @@ pub struct Desk {
     heap: Global,
     number: u64,
     line: Option<AnyLine>,
+    tables: Tables,
 }
 
 impl Desk {
@@ -21,6 +24,7 @@ impl Desk {
             heap,
             number: 0,
             line: None,
+            tables: Tables::new(heap),
         }
     }
 }
@@ -28,6 +32,31 @@ impl Desk {
 fn tell_bad(rt: &LibcRuntime, number: u64, bad: BadLine) -> Result<(), AnyError> {
     let words = bad.words();
     println!(rt, "error: line {number}: {words}")?;
+    Ok(())
+}
+
+fn help_tables(rt: &LibcRuntime) -> Result<(), AnyError> {
+    println!(
+        rt,
+        "  prefix kind=N tt=N np=N nai=N digits=D on=title|subsystem to=CODE[/N] [backup=CODE[/N]]   adds a rule for titles"
+    )?;
+    println!(
+        rt,
+        "  plan kind=N tt=N np=N nai=N   translates by the bench plan, until the next prefix"
+    )?;
+    println!(rt, "  code N up|down|sccp-down      what a code is")?;
+    println!(
+        rt,
+        "  subsystem CODE/N up|failed|unequipped   what a subsystem is"
+    )?;
+    println!(
+        rt,
+        "  map HEX             states of codes, two bits each, until the next code or subsystem"
+    )?;
+    println!(
+        rt,
+        "  translate HEX own=CODE   translates an address at the station of a code"
+    )?;
     Ok(())
 }
 
@@ -72,6 +101,7 @@ fn help(rt: &LibcRuntime) -> Result<(), AnyError> {
         rt,
         "  account             what was opened, handed up, broken, lapsed, and is open"
     )?;
+    help_tables(rt)?;
     println!(rt, "  help                lists the commands")?;
     Ok(())
 }
@@ -112,6 +142,12 @@ pub fn play(rt: &LibcRuntime, desk: &mut Desk, line: &str) -> Result<(), AnyErro
         "" => Ok(()),
         "read" => read(rt, desk.heap, rest)?,
         "line" | "put" | "take" | "places" => lines_used::play(rt, &mut desk.line, word, rest)?,
+        "prefix" | "plan" | "code" | "subsystem" | "map" | "translate" => tables_used::play(
+            rt,
+            &mut desk.tables,
+            word,
+            rest,
+        )?,
         "piece" | "tick" | "copy" | "release" | "account" => Err(BadLine::NoSlots),
         "help" => {
             help(rt)?;

@@ -1,0 +1,4 @@
+pub mod Causes
+pub mod Rules
+pub mod Trials
+pub mod Translating

@@ -1,0 +1,41 @@
+// Where a message with a global title goes: the rules for titles, what is known of the
+// codes and subsystems of the network, and translating an address with both.
+pub mod causes;
+pub mod finding;
+pub mod meanings;
+pub mod routes;
+pub mod rules;
+pub mod states;
+pub mod translating;
+pub mod trials;
+
+pub use causes::Cause;
+pub use causes::CauseDebug;
+pub use causes::CauseDisplay;
+pub use causes::CausePartialEq;
+pub use finding::rule_for;
+pub use finding::selector_of;
+pub use meanings::Availability;
+pub use meanings::Translator;
+pub use routes::Route;
+pub use routes::route_by;
+pub use rules::Destination;
+pub use rules::Routing;
+pub use rules::RoutingDebug;
+pub use rules::RoutingPartialEq;
+pub use rules::Rule;
+pub use rules::Selector;
+pub use rules::SelectorDebug;
+pub use rules::SelectorPartialEq;
+pub use states::CodeState;
+pub use states::CodeStateDebug;
+pub use states::CodeStatePartialEq;
+pub use states::SubsystemState;
+pub use states::SubsystemStateDebug;
+pub use states::SubsystemStatePartialEq;
+pub use translating::Translation;
+pub use translating::route_for;
+pub use translating::translate;
+pub use trials::code_trial;
+pub use trials::subsystem_trial;
+pub use trials::trial;
