@@ -23,7 +23,7 @@ fn used(list: &[Vec<u8>]) -> usize {
 }
 
 impl Room {
-    pub fn places(&self, list: &[Vec<u8>]) -> usize {
+    pub(crate) fn places(&self, list: &[Vec<u8>]) -> usize {
         match self {
             Room::Cells(cells) => cells.saturating_sub(list.len()),
             Room::Octets(total) => total.saturating_sub(used(list)) / 276,
@@ -32,7 +32,7 @@ impl Room {
 }
 
 // The number of a refusal, or 0 where there is none.
-pub fn number_of<T: Drop>(r: &Result<T, LineRefusal>) -> u8 {
+pub(crate) fn number_of<T: Drop>(r: &Result<T, LineRefusal>) -> u8 {
     match r {
         Ok(_) => 0,
         Err(e) => e.number(),
@@ -40,7 +40,7 @@ pub fn number_of<T: Drop>(r: &Result<T, LineRefusal>) -> u8 {
 }
 
 // A message of n octets, of which each tells its place and a seed.
-pub fn message(heap: Global, n: usize, seed: u8) -> Result<Vec<u8>, Fail> {
+pub(crate) fn message(heap: Global, n: usize, seed: u8) -> Result<Vec<u8>, Fail> {
     let mut m = Vec::new(heap);
     for i in 0..n {
         m.push(((i % 251) as u8).wrapping_add(seed))?;
@@ -59,7 +59,7 @@ fn put_number(places: usize, n: usize) -> u8 {
 }
 
 // Puts a message on the line and into the list, if it should be accepted; tells whether it was.
-pub fn put_beside<L: Line>(
+pub(crate) fn put_beside<L: Line>(
     line: &mut L,
     room: Room,
     list: &mut Vec<Vec<u8>>,
@@ -105,7 +105,7 @@ fn check_buffer(buffer: &[u8], n: usize, m: &[u8]) -> Result<(), Fail> {
 }
 
 // Takes a message from the line and from the list into a buffer of some size; tells whether there was one.
-pub fn take_beside<L: Line>(
+pub(crate) fn take_beside<L: Line>(
     heap: Global,
     line: &mut L,
     room: Room,
