@@ -1,4 +1,7 @@
-/* A plain reader of line messages, written from docs/FORMATS.md without Mezgalt's code. */
+/*
+ * A plain reader of line messages, to compare with: written from docs/FORMATS.md and
+ * docs/REFUSALS.md alone, by somebody who had not seen Mezgalt's code.
+ */
 #ifndef PLAIN_READER_H
 #define PLAIN_READER_H
 
