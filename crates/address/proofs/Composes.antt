@@ -1,5 +1,5 @@
 -- The parts of an address written one behind the other.
-use Rattle.std.proofs.Common.{◌≡◌, ℕ, ◌+◌, ◌<◌, ◌≤◌, List, [], ◌∷◌, ◌++◌, length, take, set, sym, refl, ap, ◌∙◌, append_assoc, arith, length-append}
+use Rattle.std.proofs.Common.{◌≡◌, ℕ, ◌+◌, ◌≤◌, List, [], ◌∷◌, ◌++◌, length, take, set, refl, ap, ◌∙◌, append_assoc, arith, length-append}
 use Rattle.octets.specs.Over.{over}
 use Rattle.octets.proofs.Over.{over_set, over_next, over_take}
 use Rattle.address.specs.Rewrite.{composed}

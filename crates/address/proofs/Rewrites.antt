@@ -1,12 +1,12 @@
 -- An address written anew says what it was told to say, and else what it said.
-use Rattle.std.proofs.Common.{◌≡◌, ℕ, ◌+◌, ◌-◌, ◌*◌, ◌/◌, ◌%◌, ◌<◌, ◌≤◌, Bool, true, false, cond, ◌&&◌, eqb, leb, ◌⊎◌, List, [], ◌∷◌, ◌++◌, length, get_or, take, drop, is_some, Some, None, Option, sym, refl, ap, ◌∙◌, subst, inl, inr, ⊎_elim, append_assoc, arith, length-append}
+use Rattle.std.proofs.Common.{◌≡◌, ℕ, ◌+◌, ◌-◌, ◌*◌, ◌/◌, ◌%◌, ◌≤◌, Bool, true, false, cond, ◌&&◌, eqb, leb, ◌⊎◌, List, [], ◌∷◌, ◌++◌, length, get_or, drop, is_some, Some, None, Option, sym, refl, ap, ◌∙◌, inl, inr, ⊎_elim, append_assoc, arith, length-append}
 use Rattle.std.proofs.lemmas.List.{take_at, drop_at, get_or_at, get_or_append_left, length-take-le, length-drop, get_or-take, get_or-drop}
-use Rattle.std.proofs.lemmas.Bool.{and_parts, and_from, and_left, leb-true, le-leb, eqb-true, eqb-false, eq-eqb, ne_eqb, cases_Bool, cond-true, cond-false, cond_both}
+use Rattle.std.proofs.lemmas.Bool.{and_parts, and_from, and_left, leb-true, le-leb, eqb-true, eqb-false, eq-eqb, ne_eqb, cases_Bool, cond-true, cond-false}
 use Rattle.address.specs.declared.rewriting.CodeChange.{CodeChange}
 use Rattle.address.specs.declared.rewriting.CodeChange.TheVariants.{Keep, Remove, Put}
 use Rattle.address.specs.Code.{code_number}
 use Rattle.address.specs.Address.{indicator, code_size, subsystem_size, title_kind, title_place, least_title, title_length_ok, address_ok, on_subsystem, code_of, subsystem_of}
-use Rattle.address.specs.Rewrite.{Bounded, code_part, title_part, indicator_with, composed, code_as, subsystem_as, rewrite_with, rewrite, code_then, Rewritten, Rewriting}
+use Rattle.address.specs.Rewrite.{Bounded, code_part, title_part, indicator_with, code_as, subsystem_as, rewrite_with, rewrite, code_then, Rewriting}
 
 -- a title of a good length has at most 28 octets
 short_title : (k t : ℕ) → title_length_ok k t ≡ true → t ≤ 28

@@ -1,5 +1,5 @@
 -- Addresses: an indicator, then a point code, a subsystem and a global title where it says so.
-use Rattle.std.specs.Prelude.{ℕ, ◌+◌, ◌-◌, ◌*◌, ◌/◌, ◌%◌, Bool, true, false, cond, not, ◌&&◌, List, [], ◌∷◌, length, drop, Some, None, Option, ◌==◌, nat_le, slice_index}
+use Rattle.std.specs.Prelude.{ℕ, ◌+◌, ◌-◌, ◌*◌, ◌/◌, ◌%◌, Bool, cond, not, ◌&&◌, List, length, drop, Some, None, Option, ◌==◌, nat_le, slice_index}
 use Rattle.address.specs.declared.titles.Title.{Title}
 use Rattle.address.specs.Title.{GlobalTitle, title_of, title_seen}
 

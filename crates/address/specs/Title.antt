@@ -1,5 +1,5 @@
 -- Global titles: what their octets say, and their digits.
-use Rattle.std.specs.Prelude.{◌≡◌, ℕ, ◌+◌, ◌-◌, ◌*◌, ◌/◌, ◌%◌, Bool, true, false, cond, ◌&&◌, ◌||◌, List, [], ◌∷◌, length, take, drop, Some, None, Option, ◌==◌, nat_le, slice_index}
+use Rattle.std.specs.Prelude.{◌≡◌, ℕ, ◌-◌, ◌*◌, ◌/◌, ◌%◌, Bool, true, false, cond, ◌&&◌, ◌||◌, List, [], ◌∷◌, length, take, drop, Some, None, Option, ◌==◌, nat_le, slice_index}
 use Rattle.address.specs.declared.titles.Title.{Title}
 use Rattle.address.specs.declared.titles.Title.TheVariants as title
 use Rattle.address.specs.declared.digits.Digits.{Digits}

@@ -1,5 +1,7 @@
 // The parts of a signalling message that name places: the routing label, addresses,
 // and the global titles in addresses.
+#![tactic(auto)]
+
 pub mod addresses;
 pub mod buffers;
 pub mod codes;

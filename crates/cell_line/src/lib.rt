@@ -1,4 +1,6 @@
 // The cell line: a ring of 274-octet cells, each of which holds one message.
+#![tactic(auto)]
+
 pub mod cells;
 pub mod ring;
 

@@ -1,5 +1,7 @@
 // Octets as hexadecimal text: two digits an octet, lower case where it is written and either
 // case where it is read; a lone `-` stands for no octets.
+#![tactic(auto)]
+
 ghost use Rattle.std.specs.Prelude.{◌≡◌, ◌<◌, [], ◌++◌, IfSome, IfOk, string_bytes, OnOk};
 ghost use Rattle.hexadecimal.specs.Hexadecimal.{digit_value, pair_value, digit_text, octets_on, octets_in, octet_text, text_of, Made, ReadsBack};
 

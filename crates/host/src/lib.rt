@@ -1,5 +1,7 @@
 // What a host program in C may ask: whether octets are a line message, and how long the
 // pieces of a unit are. The header is include/mezgalt.h.
+#![tactic(auto)]
+
 ghost use Rattle.std.specs.Prelude.{◌≡◌};
 ghost use Rattle.host.specs.Host.{check_number, check_offset};
 ghost use Rattle.message.specs.Read.{parse};

@@ -1,5 +1,5 @@
 -- What the calls of a line answer, and what waits on it afterwards.
-use Rattle.std.specs.Prelude.{◌≡◌, ℕ, ◌+◌, ◌-◌, ◌<◌, ◌≤◌, Bool, true, false, cond, ◌&&◌, List, [], ◌∷◌, ◌++◌, length, drop, Ok, Err, Result, ◌==◌, nat_le, nat_lt}
+use Rattle.std.specs.Prelude.{ℕ, Bool, true, cond, ◌&&◌, List, [], ◌∷◌, ◌++◌, length, drop, Ok, Err, Result, ◌==◌, nat_le, nat_lt}
 use Rattle.line.specs.declared.refusal.LineRefusal.{LineRefusal}
 use Rattle.line.specs.declared.refusal.LineRefusal.TheVariants.{BadLength, NoPlace, NothingWaiting, ShortBuffer}
 

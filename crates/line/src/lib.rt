@@ -1,4 +1,6 @@
 // Lines of messages: what any line means, its calls and their refusals.
+#![tactic(auto)]
+
 pub mod checks;
 pub mod octets;
 pub mod queue;

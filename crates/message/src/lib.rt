@@ -1,5 +1,7 @@
 // Messages of the connectionless service: UDT, UDTS, XUDT and XUDTS, behind their routing
 // label, read from the octets of a line.
+#![tactic(auto)]
+
 pub mod faults;
 pub mod messages;
 pub mod parts_of_options;

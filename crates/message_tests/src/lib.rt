@@ -1,5 +1,7 @@
 // Messages of the wire, good and damaged, with what reading must answer. The expected
 // numbers and offsets were worked out by hand from the format.
+#![tactic(auto)]
+
 #[cfg(test)]
 mod tests {
     use address::{Address, Label};

@@ -1,5 +1,7 @@
 // Mezgalt's program: plays a script of commands, one a line, and tells what each did. The
 // script comes from the file that the first argument names, or from the standard input.
+#![tactic(auto)]
+
 mod failing;
 mod lines_used;
 mod list_mark;

@@ -1,7 +1,7 @@
 -- Laws of what is written over a list.
-use Rattle.std.proofs.Common.{◌≡◌, ℕ, suc, ◌+◌, ◌-◌, ◌<◌, ◌≤◌, List, [], ◌∷◌, ◌++◌, length, take, drop, set, sym, refl, ap, ◌∙◌, append_assoc, add_assoc, add-one, arith, length-append, length-drop, length-take, rules}
+use Rattle.std.proofs.Common.{◌≡◌, ℕ, ◌+◌, ◌<◌, ◌≤◌, List, [], ◌∷◌, ◌++◌, length, take, drop, set, sym, ap, ◌∙◌, append_assoc, add-one, arith, length-append, length-drop}
 use borrow.Rule.Slice.PartMut.{put_mid}
-use Rattle.std.proofs.lemmas.List.{take-append-le, take_at, drop_at, drop-drop, set_split, length-take-le}
+use Rattle.std.proofs.lemmas.List.{take_at, drop_at, drop-drop, set_split, length-take-le}
 use Rattle.octets.specs.Over.{over}
 
 pub over_set : (out : List ℕ) (at b : ℕ) → at < length out → set out at b ≡ over out at (b ∷ [])

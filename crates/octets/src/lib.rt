@@ -1,5 +1,7 @@
 // Octets written into the middle of others. For the crates that write labels, addresses and
 // messages.
+#![tactic(auto)]
+
 ghost use Rattle.std.specs.Prelude.{◌≡◌, ◌+◌, ◌≤◌, length};
 ghost use Rattle.octets.specs.Over.{over};
 

@@ -1,4 +1,6 @@
 // Messages that go out: put on a line, passed on, returned, and a unit in one message or in pieces.
+#![tactic(auto)]
+
 pub mod addressing;
 pub mod passing;
 pub mod putting;

@@ -21,8 +21,8 @@ pub fn pass_on<L: Line>(
     called: AddressBuffer,
     parts: Parts<'_>,
 ) -> Result<(), Cause>
-    ensures answer { result ≡ put_outcome (places line.old) (message_passed_on (code_number own) (code_number code) form (buffer_octets called) (seen parts.entry)) }
-    ensures after { Behind waiting places line.old line.new (put_by result (message_passed_on (code_number own) (code_number code) form (buffer_octets called) (seen parts.entry))) }
+    ensures answer { result ≡ put_outcome (L.places line.old) (message_passed_on (code_number own) (code_number code) form (buffer_octets called) (seen parts.entry)) }
+    ensures after { Behind L.waiting L.places line.old line.new (put_by result (message_passed_on (code_number own) (code_number code) form (buffer_octets called) (seen parts.entry))) }
     ensures declined { OnErr result (line.new ≡ line.old) }
 {
     let label = Label {

@@ -34,8 +34,8 @@ pub fn put_message<'s, L: Line>(
     contents: &'s [u8],
     options: &'s [u8],
 ) -> Result<(), Cause>
-    ensures answer { result ≡ put_outcome (places line.old) (message_of label form called.now calling.now contents.now options.now) }
-    ensures after { Behind waiting places line.old line.new (put_by result (message_of label form called.now calling.now contents.now options.now)) }
+    ensures answer { result ≡ put_outcome (L.places line.old) (message_of label form called.now calling.now contents.now options.now) }
+    ensures after { Behind L.waiting L.places line.old line.new (put_by result (message_of label form called.now calling.now contents.now options.now)) }
     ensures declined { OnErr result (line.new ≡ line.old) }
 {
     let parts = Parts {

@@ -71,8 +71,8 @@ fn put_return<L: Line>(
     cause: Cause,
     parts: Parts<'_>,
 ) -> Result<(), Cause>
-    ensures answer { result ≡ put_outcome (places line.old) (return_message (code_number own) (code_number code) (buffer_octets called) cause (seen parts.entry)) }
-    ensures after { Behind waiting places line.old line.new (put_by result (return_message (code_number own) (code_number code) (buffer_octets called) cause (seen parts.entry))) }
+    ensures answer { result ≡ put_outcome (L.places line.old) (return_message (code_number own) (code_number code) (buffer_octets called) cause (seen parts.entry)) }
+    ensures after { Behind L.waiting L.places line.old line.new (put_by result (return_message (code_number own) (code_number code) (buffer_octets called) cause (seen parts.entry))) }
 {
     let label = Label {
         dpc: code.number(),
@@ -111,8 +111,8 @@ fn decide_and_put<L: Line, X: Translator, V: Availability>(
     cause: Cause,
     parts: Parts<'_>,
 ) -> Givenback
-    ensures answer { result ≡ (gives (tables (known translator.now) (fit translator.now) (codes availability.now) (subsystems availability.now)) (code_number own) (places line.old) cause (seen parts.entry)).done }
-    ensures after { Behind waiting places line.old line.new (gives (tables (known translator.now) (fit translator.now) (codes availability.now) (subsystems availability.now)) (code_number own) (places line.old) cause (seen parts.entry)).sent }
+    ensures answer { result ≡ (gives (tables (X.known translator.now) (X.fit translator.now) (V.codes availability.now) (V.subsystems availability.now)) (code_number own) (L.places line.old) cause (seen parts.entry)).done }
+    ensures after { Behind L.waiting L.places line.old line.new (gives (tables (X.known translator.now) (X.fit translator.now) (V.codes availability.now) (V.subsystems availability.now)) (code_number own) (L.places line.old) cause (seen parts.entry)).sent }
 {
     if !is_returnable(parts) {
         return Givenback::Discarded;
@@ -142,8 +142,8 @@ pub fn give_back<L: Line, X: Translator, V: Availability>(
     cause: Cause,
     parts: Parts<'_>,
 ) -> Givenback
-    ensures answer { result ≡ (give_back (tables (known translator.now) (fit translator.now) (codes availability.now) (subsystems availability.now)) (code_number own) (places line.old) cause (seen parts.entry)).done }
-    ensures after { Behind waiting places line.old line.new (give_back (tables (known translator.now) (fit translator.now) (codes availability.now) (subsystems availability.now)) (code_number own) (places line.old) cause (seen parts.entry)).sent }
+    ensures answer { result ≡ (give_back (tables (X.known translator.now) (X.fit translator.now) (V.codes availability.now) (V.subsystems availability.now)) (code_number own) (L.places line.old) cause (seen parts.entry)).done }
+    ensures after { Behind L.waiting L.places line.old line.new (give_back (tables (X.known translator.now) (X.fit translator.now) (V.codes availability.now) (V.subsystems availability.now)) (code_number own) (L.places line.old) cause (seen parts.entry)).sent }
 {
     decide_and_put(line, translator, availability, own, cause, parts)
 }

@@ -78,8 +78,8 @@ pub fn put_one<'s, L: Line>(
     contents: &'s [u8],
 ) -> Result<(), Cause>
     requires { unit.class < 2 }
-    ensures answer { result ≡ put_outcome (places line.old) (one_message (heading_seen unit.entry) contents.now) }
-    ensures after { Behind waiting places line.old line.new (put_by result (one_message (heading_seen unit.entry) contents.now)) }
+    ensures answer { result ≡ put_outcome (L.places line.old) (one_message (heading_seen unit.entry) contents.now) }
+    ensures after { Behind L.waiting L.places line.old line.new (put_by result (one_message (heading_seen unit.entry) contents.now)) }
     ensures declined { OnErr result (line.new ≡ line.old) }
 {
     let label = Label {
@@ -104,8 +104,8 @@ fn put_piece<'s, L: Line>(
     contents: &'s [u8],
 ) -> Result<(), Cause>
     requires { (unit.class < 2) × ((remaining < 16) × (reference < 16777216)) }
-    ensures answer { result ≡ put_outcome (places line.old) (piece_message (heading_seen unit.entry) reference first remaining contents.now) }
-    ensures after { Behind waiting places line.old line.new (put_by result (piece_message (heading_seen unit.entry) reference first remaining contents.now)) }
+    ensures answer { result ≡ put_outcome (L.places line.old) (piece_message (heading_seen unit.entry) reference first remaining contents.now) }
+    ensures after { Behind L.waiting L.places line.old line.new (put_by result (piece_message (heading_seen unit.entry) reference first remaining contents.now)) }
 {
     let label = Label {
         dpc: unit.dpc,
@@ -139,8 +139,8 @@ pub fn put_pieces<'s, L: Line>(
     contents: &'s [u8],
 )
     requires cut { Cut (heading_seen unit) reference each remaining contents.now }
-    requires room { remaining < places line.old }
-    ensures { Behind waiting places line.old line.new (piece_messages (heading_seen unit.entry) reference each true remaining contents.now) }
+    requires room { remaining < L.places line.old }
+    ensures { Behind L.waiting L.places line.old line.new (piece_messages (heading_seen unit.entry) reference each true remaining contents.now) }
 {
     let mut rest = contents;
     let mut left = remaining;

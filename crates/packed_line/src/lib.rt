@@ -1,4 +1,6 @@
 // The packed line: messages end to end from the front of an area, with an index at its end.
+#![tactic(auto)]
+
 pub mod packed;
 pub mod packing;
 mod store;

@@ -1,7 +1,7 @@
 -- Units cut into pieces.
-use Rattle.std.proofs.Common.{◌≡◌, ℕ, zero, suc, ◌+◌, ◌-◌, ◌*◌, ◌/◌, ◌<◌, ◌≤◌, min, Bool, true, false, cond, ltb, leb, ◌⊎◌, List, [], ◌∷◌, length, sym, refl, ap, ◌∙◌, subst, inl, inr, ⊎_elim, mul-le-mul_right, div-lt_iff_lt-mul, add-mul, one-mul, le-div_iff_mul-le, arith}
-use Rattle.std.proofs.lemmas.Bool.{cases_Bool, leb-true, leb-false, le-leb, lt-leb, cond-true, cond-false, cases_lt}
-use Rattle.pieces.specs.Pieces.{in_one, in_piece, piece_count, piece_length, message_size, option_size, total, Fit, SomeEach, lengths_from, lengths, AddsUp, Fewest, Figures}
+use Rattle.std.proofs.Common.{◌≡◌, ℕ, zero, suc, ◌+◌, ◌-◌, ◌*◌, ◌/◌, ◌<◌, ◌≤◌, min, leb, ◌⊎◌, List, [], ◌∷◌, length, sym, refl, ap, ◌∙◌, subst, inl, inr, ⊎_elim, mul-le-mul_right, div-lt_iff_lt-mul, add-mul, one-mul, le-div_iff_mul-le, arith}
+use Rattle.std.proofs.lemmas.Bool.{le-leb, lt-leb, cond-true, cond-false, cases_lt}
+use Rattle.pieces.specs.Pieces.{in_one, in_piece, piece_count, message_size, option_size, total, Fit, SomeEach, lengths_from, lengths, AddsUp, Fewest, Figures}
 
 -- so many pieces of p octets hold n
 pub enough : (n p : ℕ) → 0 < p → n ≤ (n + p - 1) / p * p

@@ -1,5 +1,5 @@
 -- The lengths of the pieces of a unit; a and b are the lengths of the written addresses.
-use Rattle.std.specs.Prelude.{◌≡◌, ℕ, zero, suc, ◌+◌, ◌-◌, ◌*◌, ◌/◌, ◌≤◌, min, Bool, true, false, cond, ◌&&◌, List, [], ◌∷◌, length, nat_le, nat_lt}
+use Rattle.std.specs.Prelude.{◌≡◌, ℕ, zero, suc, ◌+◌, ◌-◌, ◌*◌, ◌/◌, ◌≤◌, min, Bool, cond, ◌&&◌, List, [], ◌∷◌, length, nat_le, nat_lt}
 
 -- what one message carries, and what one piece
 abbrev pub in_one : ℕ → ℕ → ℕ

@@ -1,5 +1,7 @@
 // How long the pieces are in which a unit goes out. A unit that fits one XUDT goes in one,
 // without segmentation; a longer one goes in pieces, each an XUDT with segmentation.
+#![tactic(auto)]
+
 ghost use Rattle.std.specs.Prelude.{◌≡◌, ◌≤◌};
 ghost use Rattle.pieces.specs.Pieces.{piece_count, in_range, count_answer, length_answer, AddsUp, Fewest, Figures};
 

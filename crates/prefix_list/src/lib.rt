@@ -1,4 +1,6 @@
 // Two translators: a list of prefixes over lent entries, and the plan of a test bench.
+#![tactic(auto)]
+
 pub mod bench_plans;
 pub mod digits;
 pub mod entries;

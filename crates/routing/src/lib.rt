@@ -1,4 +1,6 @@
 // Where a message goes: one that was received, and one that a station sends or returns.
+#![tactic(auto)]
+
 pub mod deliveries;
 pub mod targets;
 pub mod ways;

@@ -78,7 +78,7 @@ fn to_subsystem<V: Availability>(
     code: PointCode,
     address: Address<'_>,
 ) -> Target
-    ensures { target_of result ≡ at_subsystem (codes availability.now) (subsystems availability.now) (code_number own) (code_number code) address.entry.octets.now }
+    ensures { target_of result ≡ at_subsystem (V.codes availability.now) (V.subsystems availability.now) (code_number own) (code_number code) address.entry.octets.now }
 {
     let subsystem = address.subsystem();
     let cause = trial(availability, own, Routing::OnSubsystem, code, subsystem);
@@ -98,7 +98,7 @@ fn by_title<X: Translator, V: Availability>(
     own: PointCode,
     address: Address<'_>,
 ) -> Target
-    ensures { target_of result ≡ translated_target (code_number own) (translated_by (tables (known translator.now) (fit translator.now) (codes availability.now) (subsystems availability.now)) (code_number own) address.entry.octets.now) }
+    ensures { target_of result ≡ translated_target (code_number own) (translated_by (tables (X.known translator.now) (X.fit translator.now) (V.codes availability.now) (V.subsystems availability.now)) (code_number own) address.entry.octets.now) }
 {
     match translate(translator, availability, own, address) {
         Ok(found) => {
@@ -123,7 +123,7 @@ fn to_title<X: Translator, V: Availability>(
     code: PointCode,
     address: Address<'_>,
 ) -> Target
-    ensures { target_of result ≡ at_title (tables (known translator.now) (fit translator.now) (codes availability.now) (subsystems availability.now)) (code_number own) (code_number code) address.entry.octets.now }
+    ensures { target_of result ≡ at_title (tables (X.known translator.now) (X.fit translator.now) (V.codes availability.now) (V.subsystems availability.now)) (code_number own) (code_number code) address.entry.octets.now }
 {
     if code.number() == own.number() {
         by_title(translator, availability, own, address)
@@ -140,7 +140,7 @@ fn titled_target<X: Translator, V: Availability>(
     code: Option<PointCode>,
     address: Address<'_>,
 ) -> Target
-    ensures { target_of result ≡ titled_target (tables (known translator.now) (fit translator.now) (codes availability.now) (subsystems availability.now)) (code_number own) (code_given code) address.entry.octets.now }
+    ensures { target_of result ≡ titled_target (tables (X.known translator.now) (X.fit translator.now) (V.codes availability.now) (V.subsystems availability.now)) (code_number own) (code_given code) address.entry.octets.now }
 {
     let Some(code) = code else {
         return by_title(translator, availability, own, address);
@@ -159,7 +159,7 @@ fn untitled_target<V: Availability>(
     code: Option<PointCode>,
     address: Address<'_>,
 ) -> Target
-    ensures { target_of result ≡ untitled_target (codes availability.now) (subsystems availability.now) (code_number own) (code_given code) address.entry.octets.now }
+    ensures { target_of result ≡ untitled_target (V.codes availability.now) (V.subsystems availability.now) (code_number own) (code_given code) address.entry.octets.now }
 {
     match code {
         Some(code) if is_nonzero(address.subsystem()) => to_subsystem(
@@ -183,7 +183,7 @@ pub fn target_for<X: Translator, V: Availability>(
     code: Option<PointCode>,
     address: Address<'_>,
 ) -> Target
-    ensures { target_of result ≡ target_for (tables (known translator.now) (fit translator.now) (codes availability.now) (subsystems availability.now)) (code_number own) (code_given code) address.entry.octets.now }
+    ensures { target_of result ≡ target_for (tables (X.known translator.now) (X.fit translator.now) (V.codes availability.now) (V.subsystems availability.now)) (code_number own) (code_given code) address.entry.octets.now }
 {
     if address.has_title() {
         titled_target(translator, availability, own, code, address)

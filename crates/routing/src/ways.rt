@@ -75,7 +75,7 @@ fn title_way<X: Translator, V: Availability>(
     form: Form,
     called: Address<'_>,
 ) -> Way
-    ensures { way_of result ≡ on_title_way (tables (known translator.now) (fit translator.now) (codes availability.now) (subsystems availability.now)) (code_number own) called.entry.octets.now (less_hop form) }
+    ensures { way_of result ≡ on_title_way (tables (X.known translator.now) (X.fit translator.now) (V.codes availability.now) (V.subsystems availability.now)) (code_number own) called.entry.octets.now (less_hop form) }
 {
     let Some(form) = less_hop(form) else {
         return Way::Nowhere {
@@ -106,7 +106,7 @@ pub fn way_for<X: Translator, V: Availability>(
     form: Form,
     called: Address<'_>,
 ) -> Way
-    ensures { way_of result ≡ way_for (tables (known translator.now) (fit translator.now) (codes availability.now) (subsystems availability.now)) (code_number own) form called.entry.octets.now }
+    ensures { way_of result ≡ way_for (tables (X.known translator.now) (X.fit translator.now) (V.codes availability.now) (V.subsystems availability.now)) (code_number own) form called.entry.octets.now }
 {
     if called.on_subsystem() {
         let subsystem = called.subsystem();

@@ -23,8 +23,8 @@ impl<'a, K: Mark + Drop> SlotArea<'a, K> {
         requires { Sound self.old }
         ensures sound { Sound self.new }
         ensures value { result ≡ count_by lapses self.old.table.entries.now }
-        ensures answer { result ≡ lapse_count (view numbers self.old) }
-        ensures seen { view numbers self.new ≡ map age (view numbers self.old) }
+        ensures answer { result ≡ lapse_count (view K.numbers self.old) }
+        ensures seen { view K.numbers self.new ≡ map age (view K.numbers self.old) }
         ensures after { Became self.old self.new (map ticked self.old.table.entries.now) self.old.store.octets.now }
     {
         self.table.tick()
@@ -33,7 +33,7 @@ impl<'a, K: Mark + Drop> SlotArea<'a, K> {
     // How many slots are open, counted from the records.
     pub fn open_slots(&self) -> usize
         ensures value { result ≡ count_by is_timed self.now.table.entries.now }
-        ensures seen { result ≡ open_count (view numbers self.now) }
+        ensures seen { result ≡ open_count (view K.numbers self.now) }
     {
         self.table.count()
     }
@@ -60,9 +60,9 @@ impl<'a, K: Mark + Drop> SlotArea<'a, K> {
         buffer: &mut [u8],
     ) -> Result<usize, CopyRefusal>
         requires { Sound self.now }
-        ensures value { result ≡ copy_told (named settings.code (view numbers self.now) (receipt_of receipt.now)) (length buffer.old) }
-        ensures filled { buffer.new ≡ copy_out (named settings.code (view numbers self.now) (receipt_of receipt.now)) result buffer.old }
-        ensures answer { copy_reply result buffer.new ≡ copy_answer (length buffer.old) (named settings.code (view numbers self.now) (receipt_of receipt.now)) }
+        ensures value { result ≡ copy_told (named settings.code (view K.numbers self.now) (receipt_of receipt.now)) (length buffer.old) }
+        ensures filled { buffer.new ≡ copy_out (named settings.code (view K.numbers self.now) (receipt_of receipt.now)) result buffer.old }
+        ensures answer { copy_reply result buffer.new ≡ copy_answer (length buffer.old) (named settings.code (view K.numbers self.now) (receipt_of receipt.now)) }
     {
         match self.whole_at(settings, receipt) {
             Some(load) => {
@@ -85,8 +85,8 @@ impl<'a, K: Mark + Drop> SlotArea<'a, K> {
     ) -> Result<(), (ReleaseRefusal, Receipt)>
         requires { Sound self.old }
         ensures sound { Sound self.new }
-        ensures answer { release_reply receipt.slot result ≡ (release_step (view numbers self.old) receipt.slot (named settings.code (view numbers self.old) (receipt_of receipt))).1 }
-        ensures seen { view numbers self.new ≡ (release_step (view numbers self.old) receipt.slot (named settings.code (view numbers self.old) (receipt_of receipt))).0 }
+        ensures answer { release_reply receipt.slot result ≡ (release_step (view K.numbers self.old) receipt.slot (named settings.code (view K.numbers self.old) (receipt_of receipt))).1 }
+        ensures seen { view K.numbers self.new ≡ (release_step (view K.numbers self.old) receipt.slot (named settings.code (view K.numbers self.old) (receipt_of receipt))).0 }
         ensures after { Became self.old self.new (release_entries settings.code (receipt_of receipt) self.old.table.entries.now) self.old.store.octets.now }
         ensures idle { IfErr result (λ e. (e.1 ≡ receipt) × (self.new ≡ self.old)) }
     {

@@ -1,4 +1,6 @@
 // Slots: pieces of units put together in lent memory.
+#![tactic(auto)]
+
 pub mod answers;
 pub mod area;
 pub mod calls;

@@ -20,7 +20,7 @@ impl<'a, K: Mark + Drop> SlotArea<'a, K> {
         ensures beyond { result.table.beyond.now ≡ drop (slots_of (length records.old) (length store.old)) records.old }
         ensures store { result.store.octets.now ≡ store.old }
         ensures sound { Sound result }
-        ensures seen { view numbers result ≡ replicate (slots_of (length records.old) (length store.old)) free }
+        ensures seen { view K.numbers result ≡ replicate (slots_of (length records.old) (length store.old)) free }
     {
         let most = most_slots(store.len());
         let table = TimedTable::over(records, most);

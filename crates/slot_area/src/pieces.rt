@@ -28,7 +28,7 @@ impl<'a, K: Mark + Drop> SlotArea<'a, K> {
     // The open slot of a mark.
     pub(crate) fn find_open(&self, key: &K) -> Found
         requires { Sound self.now }
-        ensures value { result ≡ found_of (first_from (timed_as numbers (numbers key.now)) 0 self.now.table.entries.now) self.now.table.entries.now }
+        ensures value { result ≡ found_of (first_from (timed_as K.numbers (K.numbers key.now)) 0 self.now.table.entries.now) self.now.table.entries.now }
         ensures within { Within result }
         ensures bound { Below result (length self.now.table.entries.now) }
     {
@@ -135,10 +135,10 @@ impl<'a, K: Mark + Drop> SlotArea<'a, K> {
     ) -> Result<PieceAnswer<'d>, PieceRefusal>
         requires { Sound self.old }
         ensures sound { Sound self.new }
-        ensures value { piece_reply result ≡ piece_answer numbers key first remaining contents.now self.old.table.entries.now settings.code }
+        ensures value { piece_reply result ≡ piece_answer K.numbers key first remaining contents.now self.old.table.entries.now settings.code }
         ensures after { Became self.old self.new
-            (piece_entries numbers key first remaining contents.now self.old.table.entries.now settings.ticks)
-            (piece_octets numbers key first remaining contents.now self.old.table.entries.now self.old.store.octets.now) }
+            (piece_entries K.numbers key first remaining contents.now self.old.table.entries.now settings.ticks)
+            (piece_octets K.numbers key first remaining contents.now self.old.table.entries.now self.old.store.octets.now) }
         ensures idle { OnErr result (self.new ≡ self.old) }
     {
         let len = contents.len();
@@ -161,11 +161,11 @@ impl<'a, K: Mark + Drop> SlotArea<'a, K> {
     ) -> Result<PieceAnswer<'d>, PieceRefusal>
         requires { Sound self.old }
         ensures sound { Sound self.new }
-        ensures answer { piece_reply result ≡ (step settings.code settings.ticks (view numbers self.old) (piece_event (numbers key) first remaining contents.now)).1 }
-        ensures seen { view numbers self.new ≡ (step settings.code settings.ticks (view numbers self.old) (piece_event (numbers key) first remaining contents.now)).0 }
+        ensures answer { piece_reply result ≡ (step settings.code settings.ticks (view K.numbers self.old) (piece_event (K.numbers key) first remaining contents.now)).1 }
+        ensures seen { view K.numbers self.new ≡ (step settings.code settings.ticks (view K.numbers self.old) (piece_event (K.numbers key) first remaining contents.now)).0 }
         ensures after { Became self.old self.new
-            (piece_entries numbers key first remaining contents.now self.old.table.entries.now settings.ticks)
-            (piece_octets numbers key first remaining contents.now self.old.table.entries.now self.old.store.octets.now) }
+            (piece_entries K.numbers key first remaining contents.now self.old.table.entries.now settings.ticks)
+            (piece_octets K.numbers key first remaining contents.now self.old.table.entries.now self.old.store.octets.now) }
         ensures idle { OnErr result (self.new ≡ self.old) }
     {
         self.place(settings, key, first, remaining, contents)

@@ -1,9 +1,9 @@
 -- A unit whose pieces come in order, in time and with room arrives entire.
-use Rattle.std.proofs.Common.{◌≡◌, ℕ, zero, suc, ◌+◌, ◌-◌, ◌*◌, ◌<◌, ◌≤◌, min, Bool, true, false, cond, ◌&&◌, eqb, leb, ◌≢◌, ◌⊎◌, List, [], ◌∷◌, ◌++◌, map, length, get_or, set, replicate, Some, None, Option, sym, refl, ap, ◌∙◌, subst, inl, inr, arith, length-append}
-use Rattle.std.proofs.lemmas.List.{get_or-set_same, get_or-set_other}
-use Rattle.std.proofs.lemmas.Bool.{cases_eq, eq-eqb, le-leb, and_from}
-use Rattle.slot_laws.specs.Machine.{Open, Slot, free, opened, whole, Receipt, Event, piece, tick, release, copy, Answer, hands, copied, limit_of, Found, missing, found, shift, pick, same, look, next_free, here_free, last_free, fresh, grown, aged, Step, new_step, first_step, checked, follows_on, later_step, taken, proper, piece_step, older, age, named, receipt_for, release_step, step}
-use Rattle.slot_laws.specs.Uses.{Use, slots_after, answer_to, is_tick, tick_count, Hands, HandedUp, Unreleased, NotOf, Sent, begins, between, continues, ArrivesEntire}
+use Rattle.std.proofs.Common.{◌≡◌, ℕ, zero, suc, ◌+◌, ◌-◌, ◌<◌, ◌≤◌, Bool, true, false, ◌&&◌, eqb, leb, ◌≢◌, ◌⊎◌, List, [], ◌∷◌, ◌++◌, map, length, get_or, set, Some, None, Option, sym, refl, ap, ◌∙◌, subst, inl, inr, arith, length-append}
+use Rattle.std.proofs.lemmas.List.{get_or-set_same}
+use Rattle.std.proofs.lemmas.Bool.{eq-eqb, le-leb, and_from}
+use Rattle.slot_laws.specs.Machine.{Open, Slot, free, opened, whole, Receipt, Event, piece, tick, release, copy, limit_of, Found, missing, found, shift, pick, same, look, next_free, here_free, last_free, fresh, grown, aged, Step, new_step, first_step, checked, follows_on, later_step, taken, proper, piece_step, older, age, named, receipt_for, release_step, step}
+use Rattle.slot_laws.specs.Uses.{Use, slots_after, is_tick, tick_count, Hands, HandedUp, NotOf, Sent, begins, between, continues, ArrivesEntire}
 use Rattle.slot_laws.proofs.Keep.{slots_long, kept}
 use Rattle.slot_laws.proofs.Look.{same_eq, same_refl, Looks, looks, Frees, frees, named_whole}
 

@@ -1,7 +1,7 @@
 -- opened = handed up + broken + lapsed + still open, by induction over the history.
-use Rattle.std.proofs.Common.{◌≡◌, ℕ, zero, suc, ◌+◌, ◌-◌, ◌*◌, ◌<◌, ◌≤◌, Bool, true, false, cond, ◌&&◌, eqb, leb, List, [], ◌∷◌, ◌++◌, map, length, get_or, set, replicate, Some, None, Option, sym, refl, ap, ◌∙◌, arith}
-use Rattle.slot_laws.specs.Machine.{Open, Slot, free, opened, whole, Receipt, Event, piece, tick, release, copy, Found, missing, found, look, last_free, fresh, grown, Step, new_step, first_step, checked, follows_on, later_step, taken, proper, piece_step, older, age, one_open, open_count, runs_out, one_lapses, lapse_count, named, release_step, copied_if, copy_answer, step}
-use Rattle.slot_laws.specs.Uses.{Use, slots_after, answer_to, counts_opened, counts_broken, counts_handed, counts_lapsed, total, Account}
+use Rattle.std.proofs.Common.{◌≡◌, ℕ, zero, suc, ◌+◌, ◌<◌, ◌≤◌, Bool, true, false, leb, List, [], ◌∷◌, ◌++◌, map, length, get_or, set, replicate, Some, None, Option, refl, ap, arith}
+use Rattle.slot_laws.specs.Machine.{Open, Slot, free, opened, whole, Event, piece, tick, release, copy, Found, missing, found, look, last_free, fresh, grown, Step, new_step, first_step, checked, follows_on, later_step, taken, proper, piece_step, older, age, one_open, open_count, runs_out, one_lapses, lapse_count, named, release_step, copied_if, copy_answer, step}
+use Rattle.slot_laws.specs.Uses.{Use, slots_after, counts_opened, counts_broken, counts_handed, counts_lapsed, Account}
 use Rattle.slot_laws.proofs.Look.{Looks, looks, Frees, frees, named_whole}
 
 -- a write to one slot

@@ -1,12 +1,12 @@
 -- A whole slot's unit was handed up there, and stays until it is released; what declined calls and strange receipts do.
-use Rattle.std.proofs.Common.{◌≡◌, ℕ, zero, suc, ◌+◌, ◌-◌, ◌*◌, ◌<◌, ◌≤◌, Bool, true, false, cond, ◌&&◌, eqb, leb, ◌≢◌, ◌⊎◌, List, [], ◌∷◌, ◌++◌, map, length, get_or, set, replicate, Some, None, Option, sym, refl, ap, ◌∙◌, subst, inl, inr, arith}
-use Rattle.std.proofs.lemmas.List.{get_or-set_same, get_or-set_other, length-set, length-map, length-replicate}
-use Rattle.std.proofs.lemmas.Bool.{cases_eq, eq-eqb, ne_eqb, le-leb, cond-true, cond-false}
+use Rattle.std.proofs.Common.{◌≡◌, ℕ, zero, suc, ◌<◌, ◌≤◌, Bool, true, false, cond, eqb, leb, ◌≢◌, ◌⊎◌, List, [], ◌∷◌, ◌++◌, map, length, get_or, set, replicate, Some, None, Option, sym, refl, ap, ◌∙◌, inl, inr, arith}
+use Rattle.std.proofs.lemmas.List.{get_or-set_same, get_or-set_other, length-set, length-map}
+use Rattle.std.proofs.lemmas.Bool.{cases_eq, eq-eqb, ne_eqb, le-leb, cond-true}
 use Rattle.slot_laws.specs.Machine.{Open, Slot, free, opened, whole, Receipt, Event, piece, tick, release, copy, Answer, declined, alone, refused, opens, restarts, stray, breaks, holds, hands, lapses, released, copied, Found, missing, found, look, last_free, fresh, grown, aged, Step, new_step, first_step, checked, follows_on, later_step, taken, proper, piece_step, older, age, named, receipt_for, release_step, copied_if, copy_answer, lapse_count, step}
 use Rattle.slot_laws.specs.Uses.{Use, slots_after, answer_to, Hands, HandedUp, Unreleased, OneSender, Kept, DeclinedAltersNothing, Strange, StrangeReceipts}
-use Rattle.slot_laws.proofs.Look.{Looks, looks, Frees, frees, named_whole}
+use Rattle.slot_laws.proofs.Look.{Looks, looks, Frees, frees}
 use Rattle.slot_laws.proofs.Time.{age_at}
-use Rattle.slot_laws.proofs.Splice.{Given, gives, handed_low, unspliced, free_shut, whole_shut, all_free}
+use Rattle.slot_laws.proofs.Splice.{gives, handed_low, unspliced, all_free}
 
 -- no call changes the number of slots
 abbrev Long : List Slot → Step → Type 0

@@ -1,8 +1,8 @@
 -- Under one mark at most one slot is open.
-use Rattle.std.proofs.Common.{◌≡◌, ℕ, zero, suc, ◌+◌, ◌-◌, ◌*◌, ◌<◌, ◌≤◌, Bool, true, false, cond, ◌&&◌, eqb, leb, ◌≢◌, ◌⊎◌, List, [], ◌∷◌, ◌++◌, map, length, get_or, set, replicate, Some, None, Option, sym, refl, ap, ◌∙◌, subst, inl, inr, arith}
+use Rattle.std.proofs.Common.{◌≡◌, ℕ, zero, suc, ◌<◌, Bool, true, false, ◌≢◌, ◌⊎◌, List, [], ◌∷◌, ◌++◌, map, length, get_or, set, Some, None, Option, sym, refl, ap, ◌∙◌, subst, inl, inr}
 use Rattle.std.proofs.lemmas.List.{get_or-set_same, get_or-set_other}
 use Rattle.std.proofs.lemmas.Bool.{cases_eq}
-use Rattle.slot_laws.specs.Machine.{Open, Slot, free, opened, whole, Receipt, Event, piece, tick, release, copy, Found, missing, found, look, last_free, fresh, grown, aged, Step, new_step, first_step, checked, follows_on, later_step, taken, proper, piece_step, older, age, named, release_step, copy_answer, step}
+use Rattle.slot_laws.specs.Machine.{Open, Slot, free, opened, whole, Event, piece, tick, release, copy, Found, missing, found, look, last_free, fresh, grown, new_step, first_step, checked, follows_on, later_step, taken, proper, piece_step, age, named, release_step, step}
 use Rattle.slot_laws.specs.Uses.{Use, slots_after, OneOpenEach}
 use Rattle.slot_laws.proofs.Look.{Looks, looks, Frees, frees}
 use Rattle.slot_laws.proofs.Time.{age_at}

@@ -1,9 +1,9 @@
 -- Each unit is one mark's pieces, and no piece is in two units.
-use Rattle.std.proofs.Common.{◌≡◌, ℕ, zero, suc, ◌+◌, ◌-◌, ◌*◌, ◌<◌, ◌≤◌, Bool, true, false, cond, ◌&&◌, eqb, leb, ◌≢◌, ◌⊎◌, List, [], ◌∷◌, ◌++◌, map, length, get_or, set, replicate, Some, None, Option, sym, refl, ap, ◌∙◌, subst, inl, inr, ⊎_elim, arith}
+use Rattle.std.proofs.Common.{◌≡◌, ℕ, zero, suc, ◌<◌, ◌≤◌, Bool, true, false, cond, eqb, leb, ◌≢◌, ◌⊎◌, List, [], ◌∷◌, ◌++◌, map, length, get_or, set, replicate, Some, None, Option, sym, refl, ap, ◌∙◌, subst, inl, inr, arith}
 use Rattle.std.proofs.lemmas.List.{get_or-set_same, get_or-set_other}
 use Rattle.std.proofs.lemmas.Bool.{cases_eq, eqb-true, eqb-false, eq-eqb, ne_eqb, and_parts, cond-true, cond-false}
 use Rattle.slot_laws.specs.Machine.{Open, Slot, free, opened, whole, Receipt, Event, piece, tick, release, copy, Answer, declined, alone, refused, opens, restarts, stray, breaks, holds, hands, lapses, released, copied, Found, missing, found, look, last_free, fresh, grown, aged, Step, new_step, first_step, checked, follows_on, later_step, taken, proper, piece_step, older, age, named, receipt_for, release_step, copied_if, copy_answer, lapse_count, step}
-use Rattle.slot_laws.specs.Uses.{Use, counts_handed, slots_after, answer_to, At, Mem, Joined, first, next, Hands, HandedUp}
+use Rattle.slot_laws.specs.Uses.{Use, counts_handed, slots_after, answer_to, Mem, Joined, first, next, Hands, HandedUp}
 use Rattle.slot_laws.proofs.Look.{Looks, looks, Frees, frees}
 use Rattle.slot_laws.proofs.Time.{age_at}
 

@@ -1,9 +1,9 @@
 -- T ticks after a slot was opened, that opening is over.
-use Rattle.std.proofs.Common.{◌≡◌, ℕ, zero, suc, ◌+◌, ◌-◌, ◌*◌, ◌<◌, ◌≤◌, Bool, true, false, cond, ◌&&◌, leb, ◌≢◌, ◌⊎◌, List, [], ◌∷◌, ◌++◌, map, length, get_or, set, replicate, Some, None, Option, sym, refl, ap, ◌∙◌, subst, inl, inr, arith}
+use Rattle.std.proofs.Common.{◌≡◌, ℕ, zero, suc, ◌+◌, ◌<◌, ◌≤◌, Bool, true, false, leb, ◌≢◌, ◌⊎◌, List, [], ◌∷◌, ◌++◌, map, length, get_or, set, Some, None, Option, sym, refl, ap, ◌∙◌, inl, inr, arith}
 use Rattle.std.proofs.lemmas.List.{get_or-set_same, get_or-set_other}
 use Rattle.std.proofs.lemmas.Bool.{cases_eq}
-use Rattle.slot_laws.specs.Machine.{Open, Slot, free, opened, whole, Receipt, Event, piece, tick, release, copy, Answer, declined, alone, refused, opens, restarts, stray, breaks, holds, hands, lapses, released, copied, Found, missing, found, look, last_free, fresh, grown, aged, Step, new_step, first_step, checked, follows_on, later_step, taken, proper, piece_step, older, age, named, receipt_for, release_step, copied_if, copy_answer, step}
-use Rattle.slot_laws.specs.Uses.{Use, counts_opened, slots_after, answer_to, is_tick, tick_count, Ends, handed, broken, restarted, lapsed, Over, now_over, before, Opens, NoOpeningOutlives}
+use Rattle.slot_laws.specs.Machine.{Open, Slot, free, opened, whole, Receipt, Event, piece, tick, release, copy, Answer, opens, restarts, breaks, hands, Found, missing, found, look, last_free, fresh, grown, aged, Step, new_step, first_step, checked, follows_on, later_step, taken, proper, piece_step, older, age, named, receipt_for, release_step, copied_if, copy_answer, step}
+use Rattle.slot_laws.specs.Uses.{Use, counts_opened, slots_after, is_tick, tick_count, Ends, handed, broken, restarted, lapsed, Over, now_over, before, Opens, NoOpeningOutlives}
 use Rattle.slot_laws.proofs.Look.{Looks, looks, Frees, frees, named_whole}
 
 -- the slot i is open, with so many ticks

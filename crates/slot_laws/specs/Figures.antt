@@ -1,6 +1,6 @@
 -- Figures worked out by hand, as facts about the definitions.
 use Rattle.std.specs.Prelude.{◌≡◌, ℕ, true, false, List, [], ◌∷◌, ◌++◌, replicate}
-use Rattle.slot_laws.specs.Machine.{Receipt, Event, piece, tick, Answer, stray, breaks, hands}
+use Rattle.slot_laws.specs.Machine.{Receipt, Event, piece, tick, stray, breaks, hands}
 use Rattle.slot_laws.specs.Uses.{Use, answer_to}
 
 -- one slot, T 10, code 9

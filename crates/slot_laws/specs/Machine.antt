@@ -1,7 +1,7 @@
 -- The slots in which the pieces of units are put together, over lists: what one call does, and what it answers.
 -- A unit is what a sender cut into pieces. A piece comes with a mark, which all pieces of its unit share, with a bit that
 -- tells the first, with the number of pieces that remain after it, and with its data. A tick is a unit of time.
-use Rattle.std.specs.Prelude.{◌≡◌, ℕ, zero, suc, ◌+◌, ◌-◌, ◌*◌, ◌<◌, ◌≤◌, min, Bool, true, false, cond, ◌&&◌, List, [], ◌∷◌, ◌++◌, map, length, Some, None, Option, ◌==◌, nat_le, slice_index_or, slice_set}
+use Rattle.std.specs.Prelude.{ℕ, zero, suc, ◌+◌, ◌*◌, min, Bool, true, false, cond, ◌&&◌, List, [], ◌∷◌, ◌++◌, map, length, Some, None, Option, ◌==◌, nat_le, slice_index_or, slice_set}
 
 -- an open slot: the mark of its unit, the octets so far, the pieces that remain, the limit of its length, and the ticks that it has left
 pub record Open : Type 0 where

@@ -1,7 +1,7 @@
 -- The laws of a use of slots: an opening, with all slots free, and then any calls with anything given, declined ones too.
 -- A history has the newest call first. Its calls are numbered from 0, the oldest.
 -- Marks are lists of numbers here, so the laws hold for every kind of mark.
-use Rattle.std.specs.Prelude.{◌≡◌, ℕ, zero, suc, ◌+◌, ◌-◌, ◌*◌, ◌<◌, ◌≤◌, Bool, true, false, ◌≢◌, ◌⊎◌, List, [], ◌∷◌, ◌++◌, length, get_or, replicate, slice_index_or}
+use Rattle.std.specs.Prelude.{◌≡◌, ℕ, suc, ◌+◌, ◌*◌, ◌<◌, ◌≤◌, true, false, ◌≢◌, ◌⊎◌, List, [], ◌∷◌, ◌++◌, length, get_or, replicate, slice_index_or}
 use Rattle.slot_laws.specs.Machine.{Open, Slot, free, opened, whole, Receipt, Event, piece, tick, release, copy, Answer, declined, alone, refused, opens, restarts, stray, breaks, holds, hands, lapses, released, copied, Step, step, open_count}
 
 -- what was made by opening: how many slots there are, how many ticks an opening has, and the station's code

@@ -1,4 +1,6 @@
 // The laws of a use of slots. The slots over lists, and what the laws say, stand in specs/.
+#![tactic(auto)]
+
 ghost use Rattle.std.specs.Prelude.{◌≤◌};
 ghost use Rattle.slot_laws.specs.Figures.{AfterNineTicks, AfterTenTicks, FourMore, FiveMore};
 ghost use Rattle.slot_laws.specs.Uses.{Use, OneSender, Kept, ArrivesEntire, Account, NoOpeningOutlives, DeclinedAltersNothing, StrangeReceipts, OneOpenEach};

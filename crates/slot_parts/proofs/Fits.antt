@@ -1,10 +1,9 @@
 -- What is decided fits the slots.
-use Rattle.std.proofs.Common.{◌≡◌, ℕ, ◌+◌, ◌*◌, ◌<◌, ◌≤◌, min, Bool, true, false, cond, ◌&&◌, eqb, leb, refl, add-mul, arith}
+use Rattle.std.proofs.Common.{◌≡◌, ℕ, ◌+◌, ◌*◌, ◌≤◌, Bool, true, false, ◌&&◌, eqb, leb, refl, add-mul, arith}
 use Rattle.std.proofs.lemmas.Bool.{cond_both, and_parts, leb-true}
-use Rattle.slot_parts.specs.declared.load.Load.{Load}
 use Rattle.slot_parts.specs.declared.deciding.Found.{Found}
 use Rattle.slot_parts.specs.declared.deciding.Found.TheVariants as found
-use Rattle.slot_parts.specs.Deciding.{Within, Below, Fit, Starts, Grows, decided, first_load, load_limit}
+use Rattle.slot_parts.specs.Deciding.{Within, Below, Fit, Starts, decided, first_load}
 
 first_starts : (r k : ℕ) → k ≤ 255 → Starts (first_load r k) k
 first_starts r k h =

@@ -1,5 +1,5 @@
 -- Which settings there are.
-use Rattle.std.specs.Prelude.{◌≡◌, ℕ, ◌<◌, ◌≤◌, Bool, cond, ◌||◌, Ok, Err, Result, nat_lt}
+use Rattle.std.specs.Prelude.{◌≡◌, ℕ, cond, ◌||◌, Ok, Err, Result, nat_lt}
 use Rattle.slot_parts.specs.declared.settings.Settings.{Settings}
 use Rattle.slot_parts.specs.declared.refusals.SettingsRefusal.{SettingsRefusal}
 use Rattle.slot_parts.specs.Numbers.{settings_number}

@@ -1,4 +1,6 @@
 // The parts that slots are made of: settings, refusals, what a slot keeps of its unit, the store, and what a piece does.
+#![tactic(auto)]
+
 pub mod deciding;
 pub mod layout;
 pub mod load;

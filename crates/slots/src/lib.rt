@@ -1,4 +1,6 @@
 // Slots used alone: pieces of units put together in lent memory, under any kind of mark.
+#![tactic(auto)]
+
 pub mod alone;
 pub mod using;
 

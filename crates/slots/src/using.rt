@@ -31,7 +31,7 @@ impl<'a, K: Mark + Drop> Slots<'a, K> {
         ensures records { result.area.table.entries.now ≡ map (λ _. Free) (take (slots_of (length records.old) (length store.old)) records.old) }
         ensures beyond { result.area.table.beyond.now ≡ drop (slots_of (length records.old) (length store.old)) records.old }
         ensures store { result.area.store.octets.now ≡ store.old }
-        ensures seen { seen numbers result ≡ slots_after (use_of settings records.old store.old) [] }
+        ensures seen { seen K.numbers result ≡ slots_after (use_of settings records.old store.old) [] }
         ensures one_sender { OneSender (use_of settings records.old store.old) }
         ensures kept { Kept (use_of settings records.old store.old) }
         ensures arrives_entire { ArrivesEntire (use_of settings records.old store.old) }
@@ -53,11 +53,11 @@ impl<'a, K: Mark + Drop> Slots<'a, K> {
         remaining: u8,
         contents: &'d [u8],
     ) -> Result<PieceAnswer<'d>, PieceRefusal>
-        ensures answer { piece_reply result ≡ (step_of numbers self.old (piece_event (numbers key) first remaining contents.now)).1 }
-        ensures seen { seen numbers self.new ≡ (step_of numbers self.old (piece_event (numbers key) first remaining contents.now)).0 }
+        ensures answer { piece_reply result ≡ (step_of K.numbers self.old (piece_event (K.numbers key) first remaining contents.now)).1 }
+        ensures seen { seen K.numbers self.new ≡ (step_of K.numbers self.old (piece_event (K.numbers key) first remaining contents.now)).0 }
         ensures after { Became self.old.area self.new.area
-            (piece_entries numbers key first remaining contents.now self.old.area.table.entries.now self.old.settings.ticks)
-            (piece_octets numbers key first remaining contents.now self.old.area.table.entries.now self.old.area.store.octets.now) }
+            (piece_entries K.numbers key first remaining contents.now self.old.area.table.entries.now self.old.settings.ticks)
+            (piece_octets K.numbers key first remaining contents.now self.old.area.table.entries.now self.old.area.store.octets.now) }
         ensures settings { self.new.settings ≡ self.old.settings }
         ensures idle { OnErr result (self.new ≡ self.old) }
     {
@@ -67,8 +67,8 @@ impl<'a, K: Mark + Drop> Slots<'a, K> {
 
     // One tick: takes one from every open slot and frees those at 0. Answers how many lapsed.
     pub fn tick(&mut self) -> usize
-        ensures answer { lapses_answer result ≡ (step_of numbers self.old tick_event).1 }
-        ensures seen { seen numbers self.new ≡ (step_of numbers self.old tick_event).0 }
+        ensures answer { lapses_answer result ≡ (step_of K.numbers self.old tick_event).1 }
+        ensures seen { seen K.numbers self.new ≡ (step_of K.numbers self.old tick_event).0 }
         ensures value { result ≡ count_by lapses self.old.area.table.entries.now }
         ensures after { Became self.old.area self.new.area (map ticked self.old.area.table.entries.now) self.old.area.store.octets.now }
         ensures settings { self.new.settings ≡ self.old.settings }
@@ -78,17 +78,17 @@ impl<'a, K: Mark + Drop> Slots<'a, K> {
 
     // Copies the unit of a receipt to the front of the buffer, and answers its length.
     pub fn copy(&self, receipt: &Receipt, buffer: &mut [u8]) -> Result<usize, CopyRefusal>
-        ensures value { result ≡ copy_told (named self.now.settings.code (seen numbers self.now) (receipt_of receipt.now)) (length buffer.old) }
-        ensures filled { buffer.new ≡ copy_out (named self.now.settings.code (seen numbers self.now) (receipt_of receipt.now)) result buffer.old }
-        ensures answer { copy_reply result buffer.new ≡ (step_of numbers self.now (copy_event (receipt_of receipt.now) (length buffer.old))).1 }
+        ensures value { result ≡ copy_told (named self.now.settings.code (seen K.numbers self.now) (receipt_of receipt.now)) (length buffer.old) }
+        ensures filled { buffer.new ≡ copy_out (named self.now.settings.code (seen K.numbers self.now) (receipt_of receipt.now)) result buffer.old }
+        ensures answer { copy_reply result buffer.new ≡ (step_of K.numbers self.now (copy_event (receipt_of receipt.now) (length buffer.old))).1 }
     {
         self.area.copy(self.settings, receipt, buffer)
     }
 
     // Frees the slot of a receipt. A declined call gives the receipt back.
     pub fn release(&mut self, receipt: Receipt) -> Result<(), (ReleaseRefusal, Receipt)>
-        ensures answer { release_reply receipt.slot result ≡ (step_of numbers self.old (release_event (receipt_of receipt))).1 }
-        ensures seen { seen numbers self.new ≡ (step_of numbers self.old (release_event (receipt_of receipt))).0 }
+        ensures answer { release_reply receipt.slot result ≡ (step_of K.numbers self.old (release_event (receipt_of receipt))).1 }
+        ensures seen { seen K.numbers self.new ≡ (step_of K.numbers self.old (release_event (receipt_of receipt))).0 }
         ensures after { Became self.old.area self.new.area (release_entries self.old.settings.code (receipt_of receipt) self.old.area.table.entries.now) self.old.area.store.octets.now }
         ensures settings { self.new.settings ≡ self.old.settings }
         ensures idle { IfErr result (λ e. (e.1 ≡ receipt) × (self.new ≡ self.old)) }
@@ -99,7 +99,7 @@ impl<'a, K: Mark + Drop> Slots<'a, K> {
     // How many slots are open, counted from the records.
     pub fn open_slots(&self) -> usize
         ensures value { result ≡ count_by is_timed self.now.area.table.entries.now }
-        ensures seen { result ≡ open_count (seen numbers self.now) }
+        ensures seen { result ≡ open_count (seen K.numbers self.now) }
     {
         self.area.open_slots()
     }

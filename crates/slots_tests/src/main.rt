@@ -1,5 +1,7 @@
 // Cases of slots used alone: the rules of pieces, ticks, copies, releases and receipts, of settings, marks and the timed table.
 // What it must write stands in the file stdout.
+#![tactic(auto)]
+
 mod bench;
 mod cases;
 mod parts;

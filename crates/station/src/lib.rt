@@ -1,4 +1,6 @@
 // The station: send, receive, tick, copy and release, over lent memory.
+#![tactic(auto)]
+
 pub mod answers;
 pub mod calls;
 pub mod held;

@@ -36,8 +36,8 @@ fn caused<'m, L: Line, X: Translator, V: Availability>(
     cause: Cause,
     parts: Parts<'m>,
 ) -> Received<'m>
-    ensures answer { received_as result ≡ given_reply cause (parts_seen parts.entry) (give_back (tables (known translator.now) (fit translator.now) (codes availability.now) (subsystems availability.now)) (code_number own) (places line.old) cause (parts_seen parts.entry)).done }
-    ensures line { Behind waiting places line.old line.new (give_back (tables (known translator.now) (fit translator.now) (codes availability.now) (subsystems availability.now)) (code_number own) (places line.old) cause (parts_seen parts.entry)).sent }
+    ensures answer { received_as result ≡ given_reply cause (parts_seen parts.entry) (give_back (tables (X.known translator.now) (X.fit translator.now) (V.codes availability.now) (V.subsystems availability.now)) (code_number own) (L.places line.old) cause (parts_seen parts.entry)).done }
+    ensures line { Behind L.waiting L.places line.old line.new (give_back (tables (X.known translator.now) (X.fit translator.now) (V.codes availability.now) (V.subsystems availability.now)) (code_number own) (L.places line.old) cause (parts_seen parts.entry)).sent }
 {
     match give_back(line, translator, availability, own, cause, parts) {
         Givenback::Returned { code } => Received::Returned { cause, code },
@@ -113,9 +113,9 @@ impl<'a> Station<'a> {
         subsystem: u8,
         parts: Parts<'m>,
     ) -> Received<'m>
-        ensures answer { received_as result ≡ (brought (tables (known translator.now) (fit translator.now) (codes availability.now) (subsystems availability.now)) self.old.settings.code self.old.settings.ticks (places line.old) (seen self.old) subsystem (parts_seen parts.entry) (delivery_of parts.entry.form parts.entry.options.octets.now)).reply }
-        ensures seen { seen self.new ≡ (brought (tables (known translator.now) (fit translator.now) (codes availability.now) (subsystems availability.now)) self.old.settings.code self.old.settings.ticks (places line.old) (seen self.old) subsystem (parts_seen parts.entry) (delivery_of parts.entry.form parts.entry.options.octets.now)).after }
-        ensures line { Behind waiting places line.old line.new (brought (tables (known translator.now) (fit translator.now) (codes availability.now) (subsystems availability.now)) self.old.settings.code self.old.settings.ticks (places line.old) (seen self.old) subsystem (parts_seen parts.entry) (delivery_of parts.entry.form parts.entry.options.octets.now)).sent }
+        ensures answer { received_as result ≡ (brought (tables (X.known translator.now) (X.fit translator.now) (V.codes availability.now) (V.subsystems availability.now)) self.old.settings.code self.old.settings.ticks (L.places line.old) (seen self.old) subsystem (parts_seen parts.entry) (delivery_of parts.entry.form parts.entry.options.octets.now)).reply }
+        ensures seen { seen self.new ≡ (brought (tables (X.known translator.now) (X.fit translator.now) (V.codes availability.now) (V.subsystems availability.now)) self.old.settings.code self.old.settings.ticks (L.places line.old) (seen self.old) subsystem (parts_seen parts.entry) (delivery_of parts.entry.form parts.entry.options.octets.now)).after }
+        ensures line { Behind L.waiting L.places line.old line.new (brought (tables (X.known translator.now) (X.fit translator.now) (V.codes availability.now) (V.subsystems availability.now)) self.old.settings.code self.old.settings.ticks (L.places line.old) (seen self.old) subsystem (parts_seen parts.entry) (delivery_of parts.entry.form parts.entry.options.octets.now)).sent }
         ensures slots { Slots self.old.settings.ticks self.old.area self.new.area (parts_seen parts.entry) (delivered_to subsystem (parts_seen parts.entry) (delivery_of parts.entry.form parts.entry.options.octets.now)) }
         ensures references { self.new.references ≡ self.old.references }
         ensures settings { self.new.settings ≡ self.old.settings }
@@ -142,9 +142,9 @@ impl<'a> Station<'a> {
         way: Way,
         parts: Parts<'m>,
     ) -> Received<'m>
-        ensures answer { received_as result ≡ (routed_by (tables (known translator.now) (fit translator.now) (codes availability.now) (subsystems availability.now)) self.old.settings.code self.old.settings.ticks (places line.old) (seen self.old) (parts_seen parts.entry) (way_of way)).reply }
-        ensures seen { seen self.new ≡ (routed_by (tables (known translator.now) (fit translator.now) (codes availability.now) (subsystems availability.now)) self.old.settings.code self.old.settings.ticks (places line.old) (seen self.old) (parts_seen parts.entry) (way_of way)).after }
-        ensures line { Behind waiting places line.old line.new (routed_by (tables (known translator.now) (fit translator.now) (codes availability.now) (subsystems availability.now)) self.old.settings.code self.old.settings.ticks (places line.old) (seen self.old) (parts_seen parts.entry) (way_of way)).sent }
+        ensures answer { received_as result ≡ (routed_by (tables (X.known translator.now) (X.fit translator.now) (V.codes availability.now) (V.subsystems availability.now)) self.old.settings.code self.old.settings.ticks (L.places line.old) (seen self.old) (parts_seen parts.entry) (way_of way)).reply }
+        ensures seen { seen self.new ≡ (routed_by (tables (X.known translator.now) (X.fit translator.now) (V.codes availability.now) (V.subsystems availability.now)) self.old.settings.code self.old.settings.ticks (L.places line.old) (seen self.old) (parts_seen parts.entry) (way_of way)).after }
+        ensures line { Behind L.waiting L.places line.old line.new (routed_by (tables (X.known translator.now) (X.fit translator.now) (V.codes availability.now) (V.subsystems availability.now)) self.old.settings.code self.old.settings.ticks (L.places line.old) (seen self.old) (parts_seen parts.entry) (way_of way)).sent }
         ensures slots { Slots self.old.settings.ticks self.old.area self.new.area (parts_seen parts.entry) (incoming_by (parts_seen parts.entry) (way_of way)) }
         ensures references { self.new.references ≡ self.old.references }
         ensures settings { self.new.settings ≡ self.old.settings }
@@ -172,10 +172,10 @@ impl<'a> Station<'a> {
         availability: &V,
         parts: Parts<'m>,
     ) -> Result<Received<'m>, ReceiveRefusal>
-        ensures answer { receive_reply result ≡ (routing (tables (known translator.now) (fit translator.now) (codes availability.now) (subsystems availability.now)) (places line.old) self.old (parts_seen parts.entry)).reply }
-        ensures seen { seen self.new ≡ (routing (tables (known translator.now) (fit translator.now) (codes availability.now) (subsystems availability.now)) (places line.old) self.old (parts_seen parts.entry)).after }
-        ensures line { Behind waiting places line.old line.new (routing (tables (known translator.now) (fit translator.now) (codes availability.now) (subsystems availability.now)) (places line.old) self.old (parts_seen parts.entry)).sent }
-        ensures slots { Slots self.old.settings.ticks self.old.area self.new.area (parts_seen parts.entry) (incoming (tables (known translator.now) (fit translator.now) (codes availability.now) (subsystems availability.now)) self.old.settings.code (parts_seen parts.entry)) }
+        ensures answer { receive_reply result ≡ (routing (tables (X.known translator.now) (X.fit translator.now) (V.codes availability.now) (V.subsystems availability.now)) (L.places line.old) self.old (parts_seen parts.entry)).reply }
+        ensures seen { seen self.new ≡ (routing (tables (X.known translator.now) (X.fit translator.now) (V.codes availability.now) (V.subsystems availability.now)) (L.places line.old) self.old (parts_seen parts.entry)).after }
+        ensures line { Behind L.waiting L.places line.old line.new (routing (tables (X.known translator.now) (X.fit translator.now) (V.codes availability.now) (V.subsystems availability.now)) (L.places line.old) self.old (parts_seen parts.entry)).sent }
+        ensures slots { Slots self.old.settings.ticks self.old.area self.new.area (parts_seen parts.entry) (incoming (tables (X.known translator.now) (X.fit translator.now) (V.codes availability.now) (V.subsystems availability.now)) self.old.settings.code (parts_seen parts.entry)) }
         ensures references { self.new.references ≡ self.old.references }
         ensures settings { self.new.settings ≡ self.old.settings }
         ensures idle { OnErr result ((self.new ≡ self.old) × (line.new ≡ line.old)) }
@@ -196,10 +196,10 @@ impl<'a> Station<'a> {
         availability: &V,
         message: Message<'m>,
     ) -> Result<Received<'m>, ReceiveRefusal>
-        ensures answer { receive_reply result ≡ (routing (tables (known translator.now) (fit translator.now) (codes availability.now) (subsystems availability.now)) (places line.old) self.old (parts_seen message.entry.parts)).reply }
-        ensures seen { seen self.new ≡ (routing (tables (known translator.now) (fit translator.now) (codes availability.now) (subsystems availability.now)) (places line.old) self.old (parts_seen message.entry.parts)).after }
-        ensures line { Behind waiting places line.old line.new (routing (tables (known translator.now) (fit translator.now) (codes availability.now) (subsystems availability.now)) (places line.old) self.old (parts_seen message.entry.parts)).sent }
-        ensures slots { Slots self.old.settings.ticks self.old.area self.new.area (parts_seen message.entry.parts) (incoming (tables (known translator.now) (fit translator.now) (codes availability.now) (subsystems availability.now)) self.old.settings.code (parts_seen message.entry.parts)) }
+        ensures answer { receive_reply result ≡ (routing (tables (X.known translator.now) (X.fit translator.now) (V.codes availability.now) (V.subsystems availability.now)) (L.places line.old) self.old (parts_seen message.entry.parts)).reply }
+        ensures seen { seen self.new ≡ (routing (tables (X.known translator.now) (X.fit translator.now) (V.codes availability.now) (V.subsystems availability.now)) (L.places line.old) self.old (parts_seen message.entry.parts)).after }
+        ensures line { Behind L.waiting L.places line.old line.new (routing (tables (X.known translator.now) (X.fit translator.now) (V.codes availability.now) (V.subsystems availability.now)) (L.places line.old) self.old (parts_seen message.entry.parts)).sent }
+        ensures slots { Slots self.old.settings.ticks self.old.area self.new.area (parts_seen message.entry.parts) (incoming (tables (X.known translator.now) (X.fit translator.now) (V.codes availability.now) (V.subsystems availability.now)) self.old.settings.code (parts_seen message.entry.parts)) }
         ensures references { self.new.references ≡ self.old.references }
         ensures settings { self.new.settings ≡ self.old.settings }
         ensures idle { OnErr result ((self.new ≡ self.old) × (line.new ≡ line.old)) }
@@ -216,10 +216,10 @@ impl<'a> Station<'a> {
         availability: &V,
         octets: &'m [u8],
     ) -> Result<Received<'m>, ReceiveRefusal>
-        ensures answer { receive_reply result ≡ (step_of self.old (receive_event (tables (known translator.now) (fit translator.now) (codes availability.now) (subsystems availability.now)) (places line.old) octets.now)).reply }
-        ensures seen { seen self.new ≡ (step_of self.old (receive_event (tables (known translator.now) (fit translator.now) (codes availability.now) (subsystems availability.now)) (places line.old) octets.now)).after }
-        ensures line { Behind waiting places line.old line.new (step_of self.old (receive_event (tables (known translator.now) (fit translator.now) (codes availability.now) (subsystems availability.now)) (places line.old) octets.now)).sent }
-        ensures slots { SlotsRead self.old.settings.ticks self.old.area self.new.area (tables (known translator.now) (fit translator.now) (codes availability.now) (subsystems availability.now)) self.old.settings.code (parse octets.now) }
+        ensures answer { receive_reply result ≡ (step_of self.old (receive_event (tables (X.known translator.now) (X.fit translator.now) (V.codes availability.now) (V.subsystems availability.now)) (L.places line.old) octets.now)).reply }
+        ensures seen { seen self.new ≡ (step_of self.old (receive_event (tables (X.known translator.now) (X.fit translator.now) (V.codes availability.now) (V.subsystems availability.now)) (L.places line.old) octets.now)).after }
+        ensures line { Behind L.waiting L.places line.old line.new (step_of self.old (receive_event (tables (X.known translator.now) (X.fit translator.now) (V.codes availability.now) (V.subsystems availability.now)) (L.places line.old) octets.now)).sent }
+        ensures slots { SlotsRead self.old.settings.ticks self.old.area self.new.area (tables (X.known translator.now) (X.fit translator.now) (V.codes availability.now) (V.subsystems availability.now)) self.old.settings.code (parse octets.now) }
         ensures references { self.new.references ≡ self.old.references }
         ensures settings { self.new.settings ≡ self.old.settings }
         ensures idle { OnErr result ((self.new ≡ self.old) × (line.new ≡ line.old)) }

@@ -53,8 +53,8 @@ fn put_single<'s, L: Line>(
 ) -> Result<Dispatched, SendRefusal>
     requires class { unit.class < 2 }
     requires one { (count_answer (length unit.called.now) (length unit.calling.now) (length contents.now)) ≡ 1 }
-    ensures answer { (v : View) → dispatch_reply unit.entry.dpc result ≡ (in_one_message (places line.old) v (heading_seen unit.entry) contents.now).reply }
-    ensures line { (v : View) → Behind waiting places line.old line.new (in_one_message (places line.old) v (heading_seen unit.entry) contents.now).sent }
+    ensures answer { (v : View) → dispatch_reply unit.entry.dpc result ≡ (in_one_message (L.places line.old) v (heading_seen unit.entry) contents.now).reply }
+    ensures line { (v : View) → Behind L.waiting L.places line.old line.new (in_one_message (L.places line.old) v (heading_seen unit.entry) contents.now).sent }
     ensures idle { OnErr result (line.new ≡ line.old) }
 {
     match put_one(line, unit, contents) {
@@ -90,9 +90,9 @@ impl<'a> Station<'a> {
         requires class { unit.class < 2 }
         requires many { 2 ≤ count }
         requires count { count ≡ (count_answer (length unit.called.now) (length unit.calling.now) (length contents.now)) }
-        ensures answer { dispatch_reply unit.entry.dpc result ≡ (in_pieces (places line.old) (seen self.old) (heading_seen unit.entry) contents.now (count - 1) (last_from is_free 0 None (seen self.old).frozen)).reply }
-        ensures seen { seen self.new ≡ (in_pieces (places line.old) (seen self.old) (heading_seen unit.entry) contents.now (count - 1) (last_from is_free 0 None (seen self.old).frozen)).after }
-        ensures line { Behind waiting places line.old line.new (in_pieces (places line.old) (seen self.old) (heading_seen unit.entry) contents.now (count - 1) (last_from is_free 0 None (seen self.old).frozen)).sent }
+        ensures answer { dispatch_reply unit.entry.dpc result ≡ (in_pieces (L.places line.old) (seen self.old) (heading_seen unit.entry) contents.now (count - 1) (last_from is_free 0 None (seen self.old).frozen)).reply }
+        ensures seen { seen self.new ≡ (in_pieces (L.places line.old) (seen self.old) (heading_seen unit.entry) contents.now (count - 1) (last_from is_free 0 None (seen self.old).frozen)).after }
+        ensures line { Behind L.waiting L.places line.old line.new (in_pieces (L.places line.old) (seen self.old) (heading_seen unit.entry) contents.now (count - 1) (last_from is_free 0 None (seen self.old).frozen)).sent }
         ensures rest { Untouched self.old self.new }
         ensures idle { OnErr result ((self.new ≡ self.old) × (line.new ≡ line.old)) }
     {
@@ -121,9 +121,9 @@ impl<'a> Station<'a> {
         contents: &'s [u8],
     ) -> Result<Dispatched, SendRefusal>
         requires { unit.class < 2 }
-        ensures answer { dispatch_reply unit.entry.dpc result ≡ (goes_out (places line.old) (seen self.old) (heading_seen unit.entry) contents.now).reply }
-        ensures seen { seen self.new ≡ (goes_out (places line.old) (seen self.old) (heading_seen unit.entry) contents.now).after }
-        ensures line { Behind waiting places line.old line.new (goes_out (places line.old) (seen self.old) (heading_seen unit.entry) contents.now).sent }
+        ensures answer { dispatch_reply unit.entry.dpc result ≡ (goes_out (L.places line.old) (seen self.old) (heading_seen unit.entry) contents.now).reply }
+        ensures seen { seen self.new ≡ (goes_out (L.places line.old) (seen self.old) (heading_seen unit.entry) contents.now).after }
+        ensures line { Behind L.waiting L.places line.old line.new (goes_out (L.places line.old) (seen self.old) (heading_seen unit.entry) contents.now).sent }
         ensures rest { Untouched self.old self.new }
         ensures idle { OnErr result ((self.new ≡ self.old) × (line.new ≡ line.old)) }
     {
@@ -146,9 +146,9 @@ impl<'a> Station<'a> {
         request: UnitDataRequest<'d>,
     ) -> Result<Dispatched, SendRefusal>
         requires { request.class < 2 }
-        ensures answer { dispatch_reply (code_number code) result ≡ (goes_out (places line.old) (seen self.old) (heading_of self.old.settings.code (code_number code) (buffer_octets called) (request_seen request.entry)) request.entry.«data».now).reply }
-        ensures seen { seen self.new ≡ (goes_out (places line.old) (seen self.old) (heading_of self.old.settings.code (code_number code) (buffer_octets called) (request_seen request.entry)) request.entry.«data».now).after }
-        ensures line { Behind waiting places line.old line.new (goes_out (places line.old) (seen self.old) (heading_of self.old.settings.code (code_number code) (buffer_octets called) (request_seen request.entry)) request.entry.«data».now).sent }
+        ensures answer { dispatch_reply (code_number code) result ≡ (goes_out (L.places line.old) (seen self.old) (heading_of self.old.settings.code (code_number code) (buffer_octets called) (request_seen request.entry)) request.entry.«data».now).reply }
+        ensures seen { seen self.new ≡ (goes_out (L.places line.old) (seen self.old) (heading_of self.old.settings.code (code_number code) (buffer_octets called) (request_seen request.entry)) request.entry.«data».now).after }
+        ensures line { Behind L.waiting L.places line.old line.new (goes_out (L.places line.old) (seen self.old) (heading_of self.old.settings.code (code_number code) (buffer_octets called) (request_seen request.entry)) request.entry.«data».now).sent }
         ensures rest { Untouched self.old self.new }
         ensures idle { OnErr result ((self.new ≡ self.old) × (line.new ≡ line.old)) }
     {
@@ -190,9 +190,9 @@ impl<'a> Station<'a> {
         request: UnitDataRequest<'d>,
     ) -> Result<Sent<'d>, SendRefusal>
         requires { request.class < 2 }
-        ensures answer { send_reply result ≡ (send_to self.old.settings.code (places line.old) (seen self.old) (request_seen request.entry) (target_for (tables (known translator.now) (fit translator.now) (codes availability.now) (subsystems availability.now)) self.old.settings.code (code_of request.entry.called.octets.now) request.entry.called.octets.now)).reply }
-        ensures seen { seen self.new ≡ (send_to self.old.settings.code (places line.old) (seen self.old) (request_seen request.entry) (target_for (tables (known translator.now) (fit translator.now) (codes availability.now) (subsystems availability.now)) self.old.settings.code (code_of request.entry.called.octets.now) request.entry.called.octets.now)).after }
-        ensures line { Behind waiting places line.old line.new (send_to self.old.settings.code (places line.old) (seen self.old) (request_seen request.entry) (target_for (tables (known translator.now) (fit translator.now) (codes availability.now) (subsystems availability.now)) self.old.settings.code (code_of request.entry.called.octets.now) request.entry.called.octets.now)).sent }
+        ensures answer { send_reply result ≡ (send_to self.old.settings.code (L.places line.old) (seen self.old) (request_seen request.entry) (target_for (tables (X.known translator.now) (X.fit translator.now) (V.codes availability.now) (V.subsystems availability.now)) self.old.settings.code (code_of request.entry.called.octets.now) request.entry.called.octets.now)).reply }
+        ensures seen { seen self.new ≡ (send_to self.old.settings.code (L.places line.old) (seen self.old) (request_seen request.entry) (target_for (tables (X.known translator.now) (X.fit translator.now) (V.codes availability.now) (V.subsystems availability.now)) self.old.settings.code (code_of request.entry.called.octets.now) request.entry.called.octets.now)).after }
+        ensures line { Behind L.waiting L.places line.old line.new (send_to self.old.settings.code (L.places line.old) (seen self.old) (request_seen request.entry) (target_for (tables (X.known translator.now) (X.fit translator.now) (V.codes availability.now) (V.subsystems availability.now)) self.old.settings.code (code_of request.entry.called.octets.now) request.entry.called.octets.now)).sent }
         ensures rest { Untouched self.old self.new }
         ensures idle { OnErr result ((self.new ≡ self.old) × (line.new ≡ line.old)) }
     {
@@ -236,9 +236,9 @@ impl<'a> Station<'a> {
         availability: &V,
         request: UnitDataRequest<'d>,
     ) -> Result<Sent<'d>, SendRefusal>
-        ensures answer { send_reply result ≡ (step_of self.old (send_event (tables (known translator.now) (fit translator.now) (codes availability.now) (subsystems availability.now)) (places line.old) (request_seen request.entry))).reply }
-        ensures seen { seen self.new ≡ (step_of self.old (send_event (tables (known translator.now) (fit translator.now) (codes availability.now) (subsystems availability.now)) (places line.old) (request_seen request.entry))).after }
-        ensures line { Behind waiting places line.old line.new (step_of self.old (send_event (tables (known translator.now) (fit translator.now) (codes availability.now) (subsystems availability.now)) (places line.old) (request_seen request.entry))).sent }
+        ensures answer { send_reply result ≡ (step_of self.old (send_event (tables (X.known translator.now) (X.fit translator.now) (V.codes availability.now) (V.subsystems availability.now)) (L.places line.old) (request_seen request.entry))).reply }
+        ensures seen { seen self.new ≡ (step_of self.old (send_event (tables (X.known translator.now) (X.fit translator.now) (V.codes availability.now) (V.subsystems availability.now)) (L.places line.old) (request_seen request.entry))).after }
+        ensures line { Behind L.waiting L.places line.old line.new (step_of self.old (send_event (tables (X.known translator.now) (X.fit translator.now) (V.codes availability.now) (V.subsystems availability.now)) (L.places line.old) (request_seen request.entry))).sent }
         ensures rest { Untouched self.old self.new }
         ensures idle { OnErr result ((self.new ≡ self.old) × (line.new ≡ line.old)) }
     {

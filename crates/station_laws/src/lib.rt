@@ -1,4 +1,6 @@
 // The laws of a use of a station. The station over lists, and what the laws say, stand in specs/.
+#![tactic(auto)]
+
 ghost use Rattle.std.specs.Prelude.{◌≤◌};
 ghost use Rattle.station_laws.specs.Figures.{HopOnTitle, HopOnSubsystem};
 ghost use Rattle.station_laws.specs.Uses.{Use};

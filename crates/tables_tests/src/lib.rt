@@ -1,5 +1,7 @@
 // Addresses, tables and networks, with where a message goes. The expected answers were worked
 // out by hand from the rules.
+#![tactic(auto)]
+
 #[cfg(test)]
 mod tests {
     use address::{Address, PointCode};

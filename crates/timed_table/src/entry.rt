@@ -58,7 +58,7 @@ impl<K, V> Entry<K, V> {
 
 // Whether an entry is timed under a mark that is the same as `key`.
 pub(crate) fn is_timed_as<K: Mark, V>(entry: &Entry<K, V>, key: &K) -> bool
-    ensures { result ≡ timed_as numbers (numbers key.now) entry.now }
+    ensures { result ≡ timed_as K.numbers (K.numbers key.now) entry.now }
 {
     match entry {
         Entry::Timed { key: held, .. } => held.same(key),

@@ -7,7 +7,7 @@ use crate::mark::Mark;
 
 // The first entry that is timed under a mark, found alike for every kind of mark.
 pub(crate) fn find<K: Mark, V>(entries: &[Entry<K, V>], key: &K) -> Option<usize>
-    ensures value { result ≡ first_from (timed_as numbers (numbers key.now)) 0 entries.now }
+    ensures value { result ≡ first_from (timed_as K.numbers (K.numbers key.now)) 0 entries.now }
     ensures bound { IfSome result (λ i. i < length entries.now) }
 {
     for (i, e) in entries.iter().enumerate() {

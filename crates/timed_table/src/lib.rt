@@ -1,4 +1,6 @@
 // Marks, and the timed table: entries in lent memory, each free, timed under a mark, or held.
+#![tactic(auto)]
+
 pub mod entry;
 pub mod finding;
 pub mod lent;

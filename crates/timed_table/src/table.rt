@@ -108,7 +108,7 @@ impl<'a, K: Drop, V: Drop> TimedTable<'a, K, V> {
 impl<'a, K: Mark + Drop, V: Drop> TimedTable<'a, K, V> {
     // The first entry that is timed under a mark.
     pub fn find(&self, key: &K) -> Option<usize>
-        ensures value { result ≡ first_from (timed_as numbers (numbers key.now)) 0 self.now.entries.now }
+        ensures value { result ≡ first_from (timed_as K.numbers (K.numbers key.now)) 0 self.now.entries.now }
         ensures bound { IfSome result (λ i. i < length self.now.entries.now) }
     {
         find(self.entries, key)

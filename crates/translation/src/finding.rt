@@ -47,7 +47,7 @@ pub fn selector_of(address: Address<'_>) -> Option<Selector>
 
 // The rule for an address, or the cause why there is none.
 pub fn rule_for<X: Translator>(translator: &X, address: Address<'_>) -> Result<Rule, Cause>
-    ensures { rule_given result ≡ rule_for (known translator.now) (fit translator.now) (title_in address.entry.octets.now) }
+    ensures { rule_given result ≡ rule_for (X.known translator.now) (X.fit translator.now) (title_in address.entry.octets.now) }
 {
     let Some(selector) = selector_of(address) else {
         return Err(Cause::NoTranslationOfNature);

@@ -1,5 +1,7 @@
 // Where a message with a global title goes: the rules for titles, what is known of the
 // codes and subsystems of the network, and translating an address with both.
+#![tactic(auto)]
+
 pub mod causes;
 pub mod finding;
 pub mod meanings;

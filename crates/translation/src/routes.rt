@@ -26,7 +26,7 @@ impl Destination {
         routing: Routing,
         given: Option<u8>,
     ) -> Result<Route, Cause>
-        ensures { route_given result ≡ route_tried (codes availability.now) (subsystems availability.now) (code_number own) (route_to routing (destination_seen self) given) }
+        ensures { route_given result ≡ route_tried (V.codes availability.now) (V.subsystems availability.now) (code_number own) (route_to routing (destination_seen self) given) }
     {
         let subsystem = match self.subsystem {
             Some(number) => Some(number),
@@ -51,7 +51,7 @@ pub fn route_by<V: Availability>(
     rule: Rule,
     given: Option<u8>,
 ) -> Result<Route, Cause>
-    ensures { route_given result ≡ route_by (codes availability.now) (subsystems availability.now) (code_number own) (rule_seen rule) given }
+    ensures { route_given result ≡ route_by (V.codes availability.now) (V.subsystems availability.now) (code_number own) (rule_seen rule) given }
 {
     let cause = match rule.primary.route(availability, own, rule.routing, given) {
         Ok(route) => return Ok(route),

@@ -40,7 +40,7 @@ pub fn route_for<X: Translator, V: Availability>(
     own: PointCode,
     address: Address<'_>,
 ) -> Result<Route, Cause>
-    ensures { route_given result ≡ route_for (known translator.now) (fit translator.now) (codes availability.now) (subsystems availability.now) (code_number own) address.entry.octets.now }
+    ensures { route_given result ≡ route_for (X.known translator.now) (X.fit translator.now) (V.codes availability.now) (V.subsystems availability.now) (code_number own) address.entry.octets.now }
 {
     match finding::rule_for(translator, address) {
         Ok(rule) => routes::route_by(availability, own, rule, address.subsystem()),
@@ -56,8 +56,8 @@ pub fn translate<X: Translator, V: Availability>(
     own: PointCode,
     address: Address<'_>,
 ) -> Result<Translation, Cause>
-    ensures value { translation_given result ≡ translate_of (known translator.now) (fit translator.now) (codes availability.now) (subsystems availability.now) (code_number own) address.entry.octets.now }
-    ensures tried { CanBeGone (codes availability.now) (subsystems availability.now) (code_number own) (translation_given result) }
+    ensures value { translation_given result ≡ translate_of (X.known translator.now) (X.fit translator.now) (V.codes availability.now) (V.subsystems availability.now) (code_number own) address.entry.octets.now }
+    ensures tried { CanBeGone (V.codes availability.now) (V.subsystems availability.now) (code_number own) (translation_given result) }
 {
     if !address.is_good() {
         return Err(Cause::NoTranslationOfNature);

@@ -14,7 +14,7 @@ pub fn code_trial<V: Availability>(
     own: PointCode,
     code: PointCode,
 ) -> Option<Cause>
-    ensures { result ≡ code_trial (codes availability.now) (code_number own) (code_number code) }
+    ensures { result ≡ code_trial (V.codes availability.now) (code_number own) (code_number code) }
 {
     if code.number() == own.number() {
         return None;
@@ -32,7 +32,7 @@ pub fn subsystem_trial<V: Availability>(
     code: PointCode,
     subsystem: Option<u8>,
 ) -> Option<Cause>
-    ensures { result ≡ subsystem_trial (subsystems availability.now) (code_number code) subsystem }
+    ensures { result ≡ subsystem_trial (V.subsystems availability.now) (code_number code) subsystem }
 {
     let Some(number) = subsystem else {
         return Some(Cause::NoTranslation);
@@ -55,7 +55,7 @@ pub fn trial<V: Availability>(
     code: PointCode,
     subsystem: Option<u8>,
 ) -> Option<Cause>
-    ensures { result ≡ trial_of (codes availability.now) (subsystems availability.now) (code_number own) routing (code_number code) subsystem }
+    ensures { result ≡ trial_of (V.codes availability.now) (V.subsystems availability.now) (code_number own) routing (code_number code) subsystem }
 {
     if let Some(cause) = code_trial(availability, own, code) {
         return Some(cause);

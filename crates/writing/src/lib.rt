@@ -1,5 +1,7 @@
 // Messages of the connectionless service written into a buffer: UDT, UDTS, XUDT and XUDTS
 // behind their routing label.
+#![tactic(auto)]
+
 pub mod layout;
 pub mod refusals;
 pub mod writing;

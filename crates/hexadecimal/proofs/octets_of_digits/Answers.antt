@@ -1,4 +1,4 @@
-use Rattle.std.proofs.Common.{◌≡◌, ◌+◌, [], ◌∷◌, ◌++◌, get_or, drop, vec_items, sym, ap, ◌∙◌, arith, rules}
+use Rattle.std.proofs.Common.{◌≡◌, ◌+◌, [], ◌∷◌, ◌++◌, drop, vec_items, sym, ap, ◌∙◌, arith, rules}
 use Rattle.hexadecimal.specs.Hexadecimal.{with, octets_on}
 use Rattle.hexadecimal.proofs.Turns.{turn, lone, over}
 use Rattle.hexadecimal.proofs.octets_of_digits.Goals as goal

@@ -5,8 +5,8 @@ use Rattle.cell_line.specs.Ring.{cell_octets, cell_message, messages}
 use Rattle.cell_line.specs.Rings.{ring_take, held_oldest, message_length}
 use Rattle.cell_line.proofs.ring.read_oldest.Goals as goal
 
-pub read-cell-requires : goal.read-cell-requires
-read-cell-requires c =
+pub read_cell-requires : goal.read_cell-requires
+read_cell-requires c =
     let v = c.deref.ensures.value in
     let at = cell_octets * c.args.head in
     let h = held_oldest (vec_items c.args.area.now) c.args.cells c.args.head c.args.count c.requires.ring.1.0 c.requires.some c.requires.held in
@@ -17,8 +17,8 @@ pub returns : goal.returns
 returns c =
     let xs = vec_items c.args.area.now in
     let at = cell_octets * c.args.head in
-    let n = c.read-cell.result in
-    let r = c.read-cell.ensures in
+    let n = c.read_cell.result in
+    let r = c.read_cell.ensures in
     let v = c.deref.ensures.value in
     let h = held_oldest xs c.args.cells c.args.head c.args.count c.requires.ring.1.0 c.requires.some c.requires.held in
     let ms : oldest (messages xs c.args.cells c.args.head c.args.count) ≡ cell_message xs at = ap oldest (ring_take xs c.args.cells c.args.head c.args.count c.requires.ring.1.0 c.requires.ring.1.1 c.requires.some) in

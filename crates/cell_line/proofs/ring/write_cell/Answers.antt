@@ -7,6 +7,6 @@ pub returns : goal.returns
 returns c =
     let m = c.args.message.now in
     let at = c.args.at in
-    c.write-octets.ensures
-    ∙ (ap (λ xs. over xs (at + 2) m) c.write-two.ensures
+    c.write_octets.ensures
+    ∙ (ap (λ xs. over xs (at + 2) m) c.write_two.ensures
     ∙ over_over c.args.area.now at (two_octets (length m)) m (at + 2) refl (omega arith))

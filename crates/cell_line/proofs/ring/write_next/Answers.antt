@@ -10,18 +10,18 @@ pub returns : goal.returns
 returns c =
     let xs = c.args.area.now.items in
     let n = c.args.area.now.len in
-    let ys = c.write-cell.new.area in
-    let v = c.deref-mut.ensures.value in
+    let ys = c.write_cell.new.area in
+    let v = c.deref_mut.ensures.value in
     let m = c.args.message.now in
     let cells = c.args.cells in
     let head = c.args.head in
     let count = c.args.count in
-    let l : length ys ≡ length xs = c.write-cell.auto.area ∙ ap length v in
+    let l : length ys ≡ length xs = c.write_cell.auto.area ∙ ap length v in
     let k : n ≡ length xs = c.args.area.now.ok.0 in
     let fit = fits_bounds (length m) c.requires.fit in
     let e : take n (ys ++ drop (length ys) xs) ≡ ys = take_at ys (drop (length ys) xs) n (l ∙ sym k) in
     let w : ys ≡ wrote xs cells head count m =
-    c.write-cell.ensures ∙ (ap (λ z. over z (cell_octets * c.wrapped-at.result) (two_octets (length m) ++ m)) v ∙ ap (λ z. over xs (cell_octets * z) (two_octets (length m) ++ m)) c.wrapped-at.ensures) in
+    c.write_cell.ensures ∙ (ap (λ z. over z (cell_octets * c.wrapped-at.result) (two_octets (length m) ++ m)) v ∙ ap (λ z. over xs (cell_octets * z) (two_octets (length m) ++ m)) c.wrapped-at.ensures) in
     let p : Put xs m cells head count = record { inside = omega arith; headin = c.requires.ring.1.0; room = c.requires.ring.1.1; least = fit.0; most = fit.1; held = c.requires.held } in
     record {
       value = refl;

@@ -10,5 +10,5 @@ returns c =
     let ys = c.args.octets.now in
     let at = c.args.at in
     let w = at + length ys - at in
-    ap (λ zs. take at xs ++ (zs ++ drop w (drop at xs))) c.copy-from-slice.ensures.after
+    ap (λ zs. take at xs ++ (zs ++ drop w (drop at xs))) c.copy_from_slice.ensures.after
     ∙ ap (λ zs. take at xs ++ (ys ++ zs)) (drop-drop w at xs ∙ ap (λ k. drop k xs) (omega arith))

@@ -11,12 +11,12 @@ unfolding parse
 returns-in-len4-up c =
     let x = c.args.octets.now in
     let t = take_rest x 4 in
-    let e : meaning c.read-message.result ≡ parse x = search rules in
+    let e : meaning c.read_message.result ≡ parse x = search rules in
     record { value = e; place = search rules; first_fault = first_fault x _ e; parts_inside = parts_inside x _ e; figures = (udt_figure, piece_figure) }
 
-pub returns-in-default : goal.returns-in-default
+pub returns-in_default : goal.returns-in_default
 unfolding parse
-returns-in-default c =
+returns-in_default c =
     let x = c.args.octets.now in
     let e : ◌≡◌ {A = Result Parsed ReadFault} (Err (record { fault = Length; offset = 0 })) (parse x) = search rules in
     record { value = e; place = search rules; first_fault = first_fault x _ e; parts_inside = parts_inside x _ e; figures = (udt_figure, piece_figure) }

@@ -11,8 +11,8 @@ returns-then-i-n c = let h = span_next c.args.start c.loop-i.segmented c.args.me
 pub returns-then-i-length : goal.returns-then-i-length
 returns-then-i-length c = let h = span_next c.args.start c.loop-i.segmented c.args.message.now c.loop-i.i in search rules
 
-pub returns-then-length-ne-SEGMENTATION-LENGTH : goal.returns-then-length-ne-SEGMENTATION-LENGTH
-returns-then-length-ne-SEGMENTATION-LENGTH c = let h = span_next c.args.start c.loop-i.segmented c.args.message.now c.loop-i.i in search rules
+pub returns-then-length-ne-SEGMENTATION_LENGTH : goal.returns-then-length-ne-SEGMENTATION_LENGTH
+returns-then-length-ne-SEGMENTATION_LENGTH c = let h = span_next c.args.start c.loop-i.segmented c.args.message.now c.loop-i.i in search rules
 
 pub loop-i-preserved : goal.loop-i-preserved
 loop-i-preserved c = let h = span_next c.args.start c.loop-i.segmented c.args.message.now c.loop-i.i in search rules

@@ -3,4 +3,4 @@ use Rattle.outgoing.proofs.returning.give_back.Goals as goal
 
 pub returns : goal.returns
 unfolding give_back
-returns g c = record { answer = c.decide-and-put.ensures.answer; after = c.decide-and-put.ensures.after }
+returns g c = record { answer = c.decide_and_put.ensures.answer; after = c.decide_and_put.ensures.after }

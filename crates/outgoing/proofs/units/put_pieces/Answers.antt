@@ -5,8 +5,8 @@ use Rattle.outgoing.specs.Units.{heading_seen, piece_message}
 use Rattle.outgoing.proofs.Pieces.{front, behind_long, behind_short, one_at_most, step, last_step, goes, piece_fits, count}
 use Rattle.outgoing.proofs.units.put_pieces.Goals as goal
 
-pub slice-bounds-put-piece-end : goal.slice-bounds-put-piece-end
-slice-bounds-put-piece-end g c =
+pub slice-bounds-put_piece-end : goal.slice-bounds-put_piece-end
+slice-bounds-put_piece-end g c =
     let whole : c.args.each ≤ length c.loop-left.rest.now = front c.loop-left.left c.args.each _ c.loop-left-test.true c.loop-left.invariant.4 in
     search rules
 
@@ -27,7 +27,7 @@ loop-left-preserved g c =
     let rest = c.loop-left.rest.now in
     let inv = c.loop-left.invariant in
     let more = c.loop-left-test.true in
-    let e = c.put-piece.ensures in
+    let e = c.put_piece.ensures in
     let cut = c.requires.cut in
     let whole : n ≤ length rest = front left n (length rest) more inv.4 in
     let same : n - 0 ≡ n = omega arith in
@@ -37,7 +37,7 @@ loop-left-preserved g c =
     let room : 0 < t.places c.loop-left.line = omega (arith, inv.1) in
     let p = piece_message h c.args.reference c.loop-left.first left (take (n - 0) rest) in
     let ok = e.answer ∙ goes (t.places c.loop-left.line) p fit room in
-    let one = one_at_most c.put-piece.result p in
+    let one = one_at_most c.put_piece.result p in
     let least = e.after.least in
     let most = e.after.most in
     let behind = take_rest rest n in
@@ -50,7 +50,7 @@ loop-left-preserved g c =
       omega (arith, inv.3),
       omega arith,
       omega arith,
-      step (t.waiting c.loop-left.line) _ h c.args.reference n c.loop-left.first left rest (take (n - 0) rest) _ c.put-piece.result more ok (ap (λ k. take k rest) same) behind e.after.messages
+      step (t.waiting c.loop-left.line) _ h c.args.reference n c.loop-left.first left rest (take (n - 0) rest) _ c.put_piece.result more ok (ap (λ k. take k rest) same) behind e.after.messages
           ∙ inv.6,
     )
 
@@ -63,7 +63,7 @@ returns g c =
     let rest = c.loop-left.rest.now in
     let inv = c.loop-left.invariant in
     let done : left ≡ 0 = omega (arith, c.loop-left-test.false) in
-    let e = c.put-piece-2.ensures in
+    let e = c.put_piece-2.ensures in
     let cut = c.requires.cut in
     let ea : n ≡ in_piece (length h.called) (length h.calling) = cut.each in
     let top : length rest ≤ (0 + 1) * n = subst (λ k. length rest ≤ (k + 1) * n) done inv.5 in
@@ -72,12 +72,12 @@ returns g c =
     let room : 0 < t.places c.loop-left.line = omega (arith, inv.1) in
     let p = piece_message h c.args.reference c.loop-left.first 0 rest in
     let ok = e.answer ∙ goes (t.places c.loop-left.line) p fit room in
-    let one = one_at_most c.put-piece-2.result p in
+    let one = one_at_most c.put_piece-2.result p in
     let least = e.after.least in
     let most = e.after.most in
     let many = count h c.args.reference n true c.args.remaining c.args.contents.now in
     record {
-      messages = last_step (t.waiting c.loop-left.line) _ h c.args.reference n c.loop-left.first left rest c.put-piece-2.result c.loop-left-test.false ok e.after.messages ∙ inv.6;
+      messages = last_step (t.waiting c.loop-left.line) _ h c.args.reference n c.loop-left.first left rest c.put_piece-2.result c.loop-left-test.false ok e.after.messages ∙ inv.6;
       least = omega (arith, inv.2);
       most = omega (arith, inv.3);
     }

@@ -5,8 +5,8 @@ use Rattle.packed_line.specs.Pack.{length_of, offset_of, message_of, messages}
 use Rattle.packed_line.specs.Lines.{oldest_in, pack_first, message_length}
 use Rattle.packed_line.proofs.packing.read_oldest.Goals as goal
 
-pub read-message-requires : goal.read-message-requires
-read-message-requires c =
+pub read_message-requires : goal.read_message-requires
+read_message-requires c =
     let xs = vec_items c.args.area.now in
     let total = c.args.total in
     let v = c.deref.ensures.value in
@@ -27,8 +27,8 @@ returns c =
     let xs = vec_items c.args.area.now in
     let total = c.args.total in
     let count = c.args.count in
-    let n = c.read-message.result in
-    let r = c.read-message.ensures in
+    let n = c.read_message.result in
+    let r = c.read_message.ensures in
     let v = c.deref.ensures.value in
     let o = oldest_in xs total count c.requires.some c.requires.placed in
     let h = fits_bounds (length_of xs total 0) (c.requires.held 0 c.requires.some) in

@@ -7,8 +7,8 @@ use Rattle.packed_line.proofs.store.lower_index.Goals as goal
 pub loop-k-init : goal.loop-k-init
 loop-k-init c = sym (lowered_none c.args.area.now c.args.total c.args.n)
 
-pub move-entry-requires : goal.move-entry-requires
-move-entry-requires c =
+pub move_entry-requires : goal.move_entry-requires
+move_entry-requires c =
     let k = c.loop-k.k in
     let s = (lowered_next c.args.area.now c.args.total c.args.n k (omega arith) (omega arith)).0 in
     let e : offset_of c.loop-k.area c.args.total (k + 1) ≡ offset_of c.args.area.now c.args.total (k + 1) = ap (λ xs. offset_of xs c.args.total (k + 1)) c.loop-k.invariant ∙ s in
@@ -23,7 +23,7 @@ loop-k-preserved c =
     let k = c.loop-k.k in
     let s = lowered_next xs total n k (omega arith) (omega arith) in
     let b = lowered xs total n k in
-    c.move-entry.ensures
+    c.move_entry.ensures
     ∙ (ap (λ ys. over ys (entry_start total k) (entry_octets (offset_of ys total (k + 1) - n) (length_of ys total (k + 1)))) c.loop-k.invariant
     ∙ (ap (λ x. over b (entry_start total k) (entry_octets (x - n) (length_of b total (k + 1)))) s.0
     ∙ (ap (λ x. over b (entry_start total k) (entry_octets (offset_of xs total (k + 1) - n) x)) s.1

@@ -18,7 +18,7 @@ returns-in-Ok g c =
     let is : (v : View) → in_one_message n v h d ≡ sent v = λ v. cond-false (eqb n 0) (quiet v (declined 38)) (sent v) room in
     record {
       answer = λ v. ap (sent_one h.code) c.selection.ensures ∙ ap (λ (o : Outcome). o.reply) (sym (is v));
-      line = λ v. subst (λ (o : Outcome). Behind g.L.Line.waiting g.L.Line.places c.args.line.now c.put-one.new.line o.sent) (sym (is v)) e.after;
+      line = λ v. subst (λ (o : Outcome). Behind g.L.Line.waiting g.L.Line.places c.args.line.now c.put_one.new.line o.sent) (sym (is v)) e.after;
       idle = tt;
     }
 
@@ -33,6 +33,6 @@ returns-in-Err g c =
     let is : (v : View) → in_one_message n v h d ≡ quiet v (declined 38) = λ v. cond-true (eqb n 0) (quiet v (declined 38)) (sent v) room in
     record {
       answer = λ v. ap (λ (o : Outcome). o.reply) (sym (is v));
-      line = λ v. subst (λ (o : Outcome). Behind g.L.Line.waiting g.L.Line.places c.args.line.now c.put-one.new.line o.sent) (sym (is v)) e.after;
+      line = λ v. subst (λ (o : Outcome). Behind g.L.Line.waiting g.L.Line.places c.args.line.now c.put_one.new.line o.sent) (sym (is v)) e.after;
       idle = e.declined;
     }

@@ -1,4 +1,3 @@
-use Rattle.std.proofs.Common.{◌≡◌}
 use Rattle.std.proofs.lemmas.List.Edits.{map_over_more}
 use Rattle.timed_table.specs.declared.entry.Entry.TheVariants.{Free}
 use Rattle.timed_table.proofs.Steps.{map_end}

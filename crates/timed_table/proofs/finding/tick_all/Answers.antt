@@ -3,7 +3,7 @@ use Rattle.std.proofs.lemmas.List.Edits.{map_over_more}
 use Rattle.timed_table.specs.Table.{ticked, lapses}
 use Rattle.timed_table.proofs.Steps.{count_yes, count_no, count_end, rest_read, map_end}
 use Rattle.timed_table.proofs.finding.tick_all.Goals as goal
-use Rattle.timed_table.proofs.finding.tick_all.Goals.{then-tick-entry, else-tick-entry}
+use Rattle.timed_table.proofs.finding.tick_all.Goals.{then-tick_entry, else-tick_entry}
 
 pub loop-e-preserved : goal.loop-e-preserved
 loop-e-preserved g c =
@@ -13,12 +13,12 @@ loop-e-preserved g c =
     let x = c.e-item.result in
     let lt = c.loop-e-test.true in
     let read : x ≡ get_or xs i x = rest_read ticked xs ys i x lt c.loop-e.invariant.2 c.e-item.is in
-    let value : c.tick-entry.result ≡ lapses x = c.tick-entry.ensures.value ∙ ap lapses (sym c.e-item.is) in
-    let after : set ys i c.tick-entry.new.entry ≡ map ticked (take (i + 1) xs) ++ drop (i + 1) xs =
-    ap (set ys i) (c.tick-entry.ensures.after ∙ ap ticked (sym c.e-item.is)) ∙ map_over_more ticked xs ys i x lt c.loop-e.invariant.2 c.e-item.is in
-    elim c.if-tick-entry.branch [
-      | then-tick-entry w ↦ (omega (arith, w.n-is), w.n-is ∙ ap (λ k. k + 1) c.loop-e.invariant.1 ∙ sym (count_yes lapses xs i x lt read (sym value ∙ w.if-tick-entry.true)), after)
-      | else-tick-entry w ↦ (omega (arith, w.n-is), w.n-is ∙ c.loop-e.invariant.1 ∙ sym (count_no lapses xs i x lt read (sym value ∙ w.if-tick-entry.false)), after)
+    let value : c.tick_entry.result ≡ lapses x = c.tick_entry.ensures.value ∙ ap lapses (sym c.e-item.is) in
+    let after : set ys i c.tick_entry.new.entry ≡ map ticked (take (i + 1) xs) ++ drop (i + 1) xs =
+    ap (set ys i) (c.tick_entry.ensures.after ∙ ap ticked (sym c.e-item.is)) ∙ map_over_more ticked xs ys i x lt c.loop-e.invariant.2 c.e-item.is in
+    elim c.if-tick_entry.branch [
+      | then-tick_entry w ↦ (omega (arith, w.n-is), w.n-is ∙ ap (λ k. k + 1) c.loop-e.invariant.1 ∙ sym (count_yes lapses xs i x lt read (sym value ∙ w.if-tick_entry.true)), after)
+      | else-tick_entry w ↦ (omega (arith, w.n-is), w.n-is ∙ c.loop-e.invariant.1 ∙ sym (count_no lapses xs i x lt read (sym value ∙ w.if-tick_entry.false)), after)
     ]
 
 pub returns : goal.returns

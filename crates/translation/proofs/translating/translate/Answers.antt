@@ -12,9 +12,9 @@ returns-in-Some g c =
     let subsystems = g.V.Availability.subsystems c.args.availability.now in
     let own = code_number c.args.own in
     let a = c.args.address.octets.now in
-    let r = route_seen c.in-ok-route.route in
-    let ok = sym c.is-good.ensures ∙ c.if-not-is-good.false in
-    let goes = c.in-ok-route.ensures in
+    let r = route_seen c.in_ok-route.route in
+    let ok = sym c.is_good.ensures ∙ c.if-not-is_good.false in
+    let goes = c.in_ok-route.ensures in
     let found = translated known fit codes subsystems own a r _ ok goes c.in-Some.ensures in
     record { value = answered known fit codes subsystems own a r _ ok goes (cc); tried = route_gone known fit codes subsystems own a r goes }
 
@@ -27,8 +27,8 @@ returns-in-None g c =
     let subsystems = g.V.Availability.subsystems c.args.availability.now in
     let own = code_number c.args.own in
     let a = c.args.address.octets.now in
-    let r = route_seen c.in-ok-route.route in
-    let ok = sym c.is-good.ensures ∙ c.if-not-is-good.false in
-    let found = translated known fit codes subsystems own a r _ ok c.in-ok-route.ensures c.in-None.ensures in
+    let r = route_seen c.in_ok-route.route in
+    let ok = sym c.is_good.ensures ∙ c.if-not-is_good.false in
+    let found = translated known fit codes subsystems own a r _ ok c.in_ok-route.ensures c.in-None.ensures in
     let z : ◌≡◌ {A = ℕ} 0 1 = cc in
     absurd (omega arith)

@@ -2,9 +2,9 @@ use Rattle.std.proofs.Common.{rules}
 use Rattle.address.specs.Address.{address_ok}
 use Rattle.address.proofs.addresses.Address.is_good.Goals as goal
 
-pub returns-in-default : goal.returns-in-default
+pub returns-in_default : goal.returns-in_default
 unfolding address_ok
-returns-in-default c = search rules
+returns-in_default c = search rules
 
 pub returns-then-n-lt-LEAST : goal.returns-then-n-lt-LEAST
 unfolding address_ok

@@ -3,9 +3,9 @@ use Rattle.std.proofs.lemmas.List.{get_or_past, take_rest, length-drop}
 use Rattle.address.specs.Address.{title_in, title_place}
 use Rattle.address.proofs.addresses.Address.title.Goals as goal
 
-pub returns-in-default : goal.returns-in-default
+pub returns-in_default : goal.returns-in_default
 unfolding title_in
-returns-in-default c = search (rules, get_or_past)
+returns-in_default c = search (rules, get_or_past)
 
 -- behind the end there is no title
 pub returns-then-kind-eq0 : goal.returns-then-kind-eq0
@@ -17,4 +17,4 @@ returns-then-kind-eq0 c =
 
 pub returns : goal.returns
 unfolding title_in
-returns c = let t = take_rest c.args.self.octets.now c.title-place-place.result in search rules
+returns c = let t = take_rest c.args.self.octets.now c.title_place-place.result in search rules

@@ -11,7 +11,7 @@ returns-in-Some c =
 pub loop-e-preserved : goal.loop-e-preserved
 loop-e-preserved c =
     c.loop-e.invariant
-    ∙ told_later (subsystem_answer c.args.asked c.args.number) c.args.self.now.entries.now c.loop-e.e-index nothing c.loop-e-test.true c.in-default.ensures
+    ∙ told_later (subsystem_answer c.args.asked c.args.number) c.args.self.now.entries.now c.loop-e.e-index nothing c.loop-e-test.true c.in_default.ensures
 
 pub returns : goal.returns
 returns c = told_none (subsystem_answer c.args.asked c.args.number) c.args.self.now.entries.now c.loop-e.e-index c.loop-e-test.false ∙ sym c.loop-e.invariant

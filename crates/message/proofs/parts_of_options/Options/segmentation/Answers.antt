@@ -9,13 +9,13 @@ returns-in-Segmented c = sym (sym c.loop-s.invariant ∙ first_segment c.loop-s.
 pub loop-s-smaller : goal.loop-s-smaller
 loop-s-smaller c =
     let o = first_other c.loop-s.rest.now c.in-Other.name c.in-Other.contents.now (sym c.in-Other.ensures) in
-    let e = ap length c.behind-part-rest.ensures in
+    let e = ap length c.behind_part-rest.ensures in
     omega arith
 
 pub loop-s-preserved : goal.loop-s-preserved
 loop-s-preserved c =
     let o = first_other c.loop-s.rest.now c.in-Other.name c.in-Other.contents.now (sym c.in-Other.ensures) in
-    ap segmentation_found c.behind-part-rest.ensures ∙ sym o.0 ∙ c.loop-s.invariant
+    ap segmentation_found c.behind_part-rest.ensures ∙ sym o.0 ∙ c.loop-s.invariant
 
 pub returns-in-End : goal.returns-in-End
 returns-in-End c = sym (sym c.loop-s.invariant ∙ first_ended c.loop-s.rest.now (sym c.in-End.ensures))

@@ -2,9 +2,9 @@ use Rattle.std.proofs.Common.{refl, arith}
 use Rattle.packed_line.specs.Pack.{messages, octets_of}
 use Rattle.packed_line.proofs.packed.PackedLine.new.Goals as goal
 
-pub invariant-of-result : goal.invariant-of-result
+pub invariant_of-result : goal.invariant_of-result
 unfolding messages octets_of
-invariant-of-result c = (omega arith, (omega arith, (omega arith, (refl, (refl, (refl, ((λ k l. absurd (omega arith)), ((λ k l. absurd (omega arith)), tt))))))))
+invariant_of-result c = (omega arith, (omega arith, (omega arith, (refl, (refl, (refl, ((λ k l. absurd (omega arith)), ((λ k l. absurd (omega arith)), tt))))))))
 
 pub returns : goal.returns
 unfolding messages

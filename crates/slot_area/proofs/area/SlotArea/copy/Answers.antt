@@ -47,8 +47,8 @@ returns-else-buffer-n g c =
       answer = ap copied (ap (take l.len) c.read.ensures ∙ take_at u (drop l.len c.args.buffer.now) l.len e) ∙ sym (ap (copy_answer n) w ∙ ap (copied_if u) b);
     }
 
-pub overflow-mul-receipt : goal.overflow-mul-receipt
-overflow-mul-receipt g c = let i = within g.K.Mark.numbers c.args.self.now c.args.settings.code (receipt_of c.args.receipt.now) c.in-Some.load c.requires c.in-Some.ensures.bound c.in-Some.ensures.value in let q = i.0 in omega arith
+pub overflow_mul-receipt : goal.overflow_mul-receipt
+overflow_mul-receipt g c = let i = within g.K.Mark.numbers c.args.self.now c.args.settings.code (receipt_of c.args.receipt.now) c.in-Some.load c.requires c.in-Some.ensures.bound c.in-Some.ensures.value in let q = i.0 in omega arith
 
 pub read-requires : goal.read-requires
 read-requires g c = let i = within g.K.Mark.numbers c.args.self.now c.args.settings.code (receipt_of c.args.receipt.now) c.in-Some.load c.requires c.in-Some.ensures.bound c.in-Some.ensures.value in let q = i.1 in omega arith

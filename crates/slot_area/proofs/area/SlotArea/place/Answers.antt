@@ -8,7 +8,7 @@ pub act-requires : goal.act-requires
 act-requires g c =
     let k = length c.args.contents.now in
     let n = length c.args.self.now.table.entries.now in
-    let f = c.find-open-found in (
+    let f = c.find_open-found in (
       c.requires,
       subst (λ (s : Step). Fit s k n) (sym c.decide-step.ensures)
           (decided_fits f.result c.args.first c.args.remaining k n (omega arith) f.ensures.within f.ensures.bound),

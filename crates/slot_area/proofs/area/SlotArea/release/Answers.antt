@@ -9,10 +9,10 @@ returns-in-Some g c =
     let old = c.args.self.now in
     let C = c.args.settings.code in
     let r = receipt_of c.args.receipt in
-    let p = c.put-entry.ensures in
+    let p = c.put_entry.ensures in
     let b = p.after in
     let e = c.in-Some.ensures.value in
-    let s = freed g.K.Mark.numbers old C r c.put-entry.new.self c.in-Some.field-0 e b in
+    let s = freed g.K.Mark.numbers old C r c.put_entry.new.self c.in-Some.field-0 e b in
     record {
       sound = p.sound;
       answer = s.0;

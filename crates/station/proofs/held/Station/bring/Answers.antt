@@ -25,13 +25,13 @@ returns-in-Err g c =
     let same = c.own-own.ensures in
     let d = delivery_of c.args.parts.form c.args.parts.options.octets.now in
     let k = c.in-Piece.ensures in
-    let b = piece_not_taken t C T n (seen self) s p x c.in-Piece.segmentation d (seen c.take-piece.new.self) k e.answer e.seen in
+    let b = piece_not_taken t C T n (seen self) s p x c.in-Piece.segmentation d (seen c.take_piece.new.self) k e.answer e.seen in
     record {
       answer = c.caused.ensures.answer ∙ ap (λ (o : ℕ). given_reply x p (give_back t o n x p).done) same ∙ ap (λ (o : Outcome). o.reply) (sym b);
       seen = ap (λ (o : Outcome). o.after) (sym b);
       line = subst (λ (m : List (List ℕ)). Behind g.L.Line.waiting g.L.Line.places c.args.line.now c.caused.new.line m)
           (ap (λ (o : ℕ). (give_back t o n x p).sent) same ∙ ap (λ (o : Outcome). o.sent) (sym b)) c.caused.ensures.line;
-      slots = subst (λ (y : DeliveryView). Slots T self.area c.take-piece.new.self.area p (delivered_to s p y)) k e.slots;
+      slots = subst (λ (y : DeliveryView). Slots T self.area c.take_piece.new.self.area p (delivered_to s p y)) k e.slots;
       references = e.references;
       settings = e.settings;
     }

@@ -30,7 +30,7 @@ returns c =
       beyond = o.beyond;
       store = o.store;
       references = f.table;
-      references-beyond = f.beyond;
+      references_beyond = f.beyond;
       seen = λ i. record { slots = o.seen i; frozen = frozen i; last = 0 };
       one_sender = one_sender u;
       kept = kept u;
@@ -40,7 +40,7 @@ returns c =
       declined_alters_nothing = declined_alters_nothing u;
       sent_in_pieces = sent_in_pieces u;
       never_shared = never_shared u;
-      from-station-to-station = λ other. between arrives_entire sent_in_pieces u other;
+      from_station_to_station = λ other. between arrives_entire sent_in_pieces u other;
       hop_on_title = hop_on_title;
       hop_on_subsystem = hop_on_subsystem;
     }

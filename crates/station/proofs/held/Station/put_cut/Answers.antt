@@ -3,8 +3,8 @@ use Rattle.outgoing.specs.Units.{heading_seen}
 use Rattle.station.proofs.Counting.{cut_so}
 use Rattle.station.proofs.held.Station.put_cut.Goals as goal
 
-pub put-pieces-requires : goal.put-pieces-requires
-put-pieces-requires g c =
+pub put_pieces-requires : goal.put_pieces-requires
+put_pieces-requires g c =
     let n = (c.args.self.now.last + 1) % 16777216 in
     let small : n < 16777216 = omega arith in
     record {

@@ -19,8 +19,8 @@ returns g c =
     let T = self.settings.ticks in
     let v = seen self in
     let e = c.follow.ensures in
-    let w = way_of c.way-for-way.result in
-    let way : w ≡ way_for t C p.form p.called = c.way-for-way.ensures ∙ ap (λ (o : ℕ). way_for t o p.form p.called) c.own-own.ensures in
+    let w = way_of c.way_for-way.result in
+    let way : w ≡ way_for t C p.form p.called = c.way_for-way.ensures ∙ ap (λ (o : ℕ). way_for t o p.form p.called) c.own-own.ensures in
     let ours : eqb p.label.dpc C ≡ true = eq-eqb p.label.dpc C (c.if-parts-code.false ∙ c.code.ensures) in
     let done : routing t n self p ≡ routed_by t C T n v p w =
     cond-true (eqb p.label.dpc C) (routed_by t C T n v p (way_for t C p.form p.called)) (quiet v (declined 42)) ours ∙ ap (routed_by t C T n v p) (sym way) in

@@ -1,4 +1,4 @@
-use Rattle.std.proofs.Common.{◌≡◌, ℕ, ◌<◌, ◌≤◌, true, false, not, ◌||◌, ltb, List, [], ◌∷◌, ◌++◌, length, take, ap, ◌∙◌, arith}
+use Rattle.std.proofs.Common.{◌≡◌, ℕ, ◌≤◌, true, not, ◌||◌, ltb, List, [], ◌∷◌, ◌++◌, length, take, ap, ◌∙◌, arith}
 use Rattle.std.proofs.lemmas.List.{take-append-le, take_all}
 use Rattle.timed_table.proofs.station_mark.StationMark.new.Goals as goal
 
@@ -13,5 +13,5 @@ within n h k = grind (arith)
 pub returns : goal.returns
 returns c = record {
   some = within (length c.args.calling.now) (omega arith) (omega arith);
-  value = ap (λ (l : List ℕ). c.args.opc ∷ c.args.subsystem ∷ (l ++ (c.args.reference ∷ []))) (front _ c.copy-from-slice.new.self _ c.args.calling.now c.copy-from-slice.ensures.after (omega arith));
+  value = ap (λ (l : List ℕ). c.args.opc ∷ c.args.subsystem ∷ (l ++ (c.args.reference ∷ []))) (front _ c.copy_from_slice.new.self _ c.args.calling.now c.copy_from_slice.ensures.after (omega arith));
 }
