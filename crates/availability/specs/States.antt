@@ -1,5 +1,5 @@
 -- What lists of exceptions and maps say of codes and subsystems.
-use Rattle.std.specs.Prelude.{ℕ, ◌/◌, ◌%◌, ◌^◌, Bool, cond, ◌&&◌, List, [], ◌∷◌, length, Some, None, Option, ◌==◌, nat_lt, slice_index}
+use Rattle.std.specs.Prelude.{ℕ, ◌/◌, ◌%◌, ◌^◌, cond, ◌&&◌, List, [], ◌∷◌, length, Some, None, Option, ◌==◌, nat_lt, slice_index}
 use Rattle.translation.specs.declared.states.CodeState.{CodeState}
 use Rattle.translation.specs.declared.states.CodeState.TheVariants.{Up, TransferDown, SccpDown}
 use Rattle.translation.specs.declared.states.SubsystemState.{SubsystemState}

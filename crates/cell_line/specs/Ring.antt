@@ -1,5 +1,5 @@
 -- A ring of 274-octet cells in an area of octets: each cell is a two-octet length, low octet first, and up to 272 octets.
-use Rattle.std.specs.Prelude.{◌≡◌, ℕ, zero, suc, ◌+◌, ◌-◌, ◌*◌, ◌<◌, ◌≤◌, true, cond, List, [], ◌∷◌, map, length, take, drop, nat_lt}
+use Rattle.std.specs.Prelude.{◌≡◌, ℕ, ◌+◌, ◌-◌, ◌*◌, ◌<◌, true, cond, List, map, take, drop, nat_lt}
 use Rattle.std.specs.List.{range_with_len}
 use Rattle.line.specs.Meaning.{fits}
 use Rattle.line.specs.Written.{two}

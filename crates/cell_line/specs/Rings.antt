@@ -1,13 +1,13 @@
 -- What a put and a take leave of a ring of cells.
-use Rattle.std.specs.Prelude.{◌≡◌, ℕ, zero, suc, ◌+◌, ◌-◌, ◌*◌, ◌/◌, ◌%◌, ◌<◌, ◌≤◌, min, Bool, true, false, cond, ◌≢◌, ◌⊎◌, List, [], ◌∷◌, ◌++◌, map, length, take, drop, slice_index, slice_index_or, refl}
-use Rattle.std.proofs.Common.{arith, zero-add, sym, ap, ◌∙◌, subst, inl, inr, below_more}
+use Rattle.std.specs.Prelude.{◌≡◌, ℕ, zero, suc, ◌+◌, ◌-◌, ◌*◌, ◌<◌, ◌≤◌, true, ◌≢◌, ◌⊎◌, List, [], ◌∷◌, ◌++◌, map, length, take, drop, slice_index, slice_index_or}
+use Rattle.std.proofs.Common.{arith, zero-add, sym, ap, ◌∙◌, inl, inr, below_more}
 use Rattle.std.specs.List.{range_with_len}
 use Rattle.std.proofs.lemmas.Bool.{cases_order}
 use Rattle.std.proofs.lemmas.Bool.Decides.{nat_tests}
 use Rattle.std.proofs.lemmas.List.{take_all, length-take, length-drop}
 use Rattle.std.proofs.lemmas.List.FromFn.{length-map-range_with_len, map-range_with_len_more}
 use Rattle.line.specs.Meaning.{fits, all_fit, least_octets, most_octets}
-use Rattle.line.specs.Written.{over, two, two_octets, Holds, SameOut}
+use Rattle.line.specs.Written.{over, two, two_octets, SameOut}
 use Rattle.line.proofs.Writes.{over_length, over_in, over_out, two_over, part_same}
 use Rattle.line.proofs.Fitting.{map_same, all_fit_map, fits_bounds, bounds_fit}
 use Rattle.cell_line.specs.Ring.{cell_octets, wrap, cell_start, cell_message, messages, Held}

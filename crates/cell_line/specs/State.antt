@@ -1,9 +1,9 @@
 -- What a cell line holds and means, and what its calls leave of its area.
-use Rattle.std.specs.Prelude.{ℕ, ◌+◌, ◌-◌, ◌*◌, ◌/◌, List, [], ◌∷◌, ◌++◌, length, Ok, Err, vec_items, vec_len, Result}
+use Rattle.std.specs.Prelude.{ℕ, ◌-◌, List, ◌++◌, length, Ok, Err, vec_items, Result}
 use Rattle.line.specs.declared.refusal.LineRefusal.{LineRefusal}
 use Rattle.line.specs.Written.{over, two_octets}
 use Rattle.cell_line.specs.declared.cells.CellLine.{CellLine}
-use Rattle.cell_line.specs.Ring.{messages, cell_octets, cell_start, wrap}
+use Rattle.cell_line.specs.Ring.{messages, cell_start, wrap}
 
 -- the octets of the area
 abbrev pub area_of : CellLine → List ℕ

@@ -1,5 +1,5 @@
 -- What the pointers name: the first fault, and where the parts stand.
-use Rattle.std.proofs.Common.{◌≡◌, ℕ, suc, ◌+◌, ◌-◌, ◌<◌, ◌≤◌, Bool, true, false, cond, ◌&&◌, eqb, ltb, leb, ◌⊎◌, List, length, take, drop, Some, None, Ok, Err, Option, Result, sym, refl, ap, ◌∙◌, subst, inl, inr, ⊎_elim, arith}
+use Rattle.std.proofs.Common.{◌≡◌, ℕ, suc, ◌+◌, ◌-◌, ◌<◌, ◌≤◌, Bool, true, false, cond, eqb, ltb, leb, List, length, take, drop, Some, None, Ok, Err, Option, Result, sym, refl, ap, ◌∙◌, subst, inl, inr, ⊎_elim, arith}
 use Rattle.std.proofs.lemmas.List.{drop-drop, length-drop, length-take-le}
 use Rattle.std.proofs.lemmas.Bool.{both_ways, leb-true, ltb-true, and_parts}
 use Rattle.address.specs.declared.labels.Label.{Label}
@@ -13,7 +13,7 @@ use Rattle.message.specs.declared.reading.Places.{Places}
 use Rattle.message.specs.declared.scanning.OptionSpan.{OptionSpan}
 use Rattle.message.specs.Options.{octet, option_span}
 use Rattle.message.specs.Read.{Parsed, Three, check, after, end_of, part, within, called_place, calling_place, data_place, options_place, span_at, has_segmentation, calling_ok, data_ok, parsed, parts_body, body}
-use Rattle.message.specs.FirstFault.{PointerWrong, AddressWrong, DataWrong, OptionWrong, WrongFrom, FaultIn, First, options_start, segmented}
+use Rattle.message.specs.FirstFault.{PointerWrong, WrongFrom, FaultIn, First, options_start, segmented}
 use Rattle.message.specs.Inside.{Stands, InOrder, PartsInside}
 use Rattle.message.proofs.Orders.{Clear, clear_more, clear_all, stop, checked_on, chosen_on}
 use Rattle.message.proofs.WrongOptions.{options_first, options_inside, SpanFirst, Spanned}

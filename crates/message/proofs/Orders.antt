@@ -1,11 +1,11 @@
 -- The first of the faults that hold, whatever holding means: by going up through the numbers.
-use Rattle.std.proofs.Common.{◌≡◌, ℕ, ◌+◌, ◌<◌, ◌≤◌, Bool, true, false, cond, eqb, ◌⊎◌, Ok, Err, Result, sym, refl, ap, ◌∙◌, subst, inl, inr, ⊎_elim, arith}
+use Rattle.std.proofs.Common.{◌≡◌, ℕ, ◌+◌, ◌<◌, ◌≤◌, Bool, true, false, cond, eqb, Ok, Err, Result, sym, refl, ap, ◌∙◌, subst, inl, inr, ⊎_elim, arith}
 use Rattle.std.proofs.lemmas.Bool.{cases_order, cases_lt}
 use Rattle.message.specs.declared.faults.Fault.{Fault}
 use Rattle.message.specs.declared.faults.Fault.TheVariants.{Length, MessageType, PointersCutOff, ClassOrHop, Pointer, Address, Data, Options}
 use Rattle.message.specs.declared.faults.ReadFault.{ReadFault}
 use Rattle.message.specs.Faults.{fault_number}
-use Rattle.message.specs.FirstFault.{First, NotAfter}
+use Rattle.message.specs.FirstFault.{First}
 use Rattle.message.specs.Read.{check, after}
 
 -- the fault of a number

@@ -1,5 +1,5 @@
 -- Going through the options finds the first that is wrong.
-use Rattle.std.proofs.Common.{◌≡◌, ℕ, zero, suc, ◌+◌, ◌<◌, ◌≤◌, Bool, true, false, cond, ◌||◌, eqb, ltb, leb, ◌⊎◌, List, length, IfOk, Ok, Err, Result, refl, subst, inl, inr, ⊎_elim, arith, MatchResult}
+use Rattle.std.proofs.Common.{◌≡◌, ℕ, zero, suc, ◌+◌, ◌<◌, ◌≤◌, Bool, true, false, cond, ◌||◌, eqb, ltb, leb, List, length, IfOk, Ok, Err, Result, refl, subst, inl, inr, ⊎_elim, arith, MatchResult}
 use Rattle.std.proofs.lemmas.Bool.{both_ways, leb-true, leb-false, ltb-false, or_left, or_right, or_cases, or_parts, cond_both}
 use Rattle.message.specs.declared.faults.Fault.TheVariants.{Options}
 use Rattle.message.specs.declared.faults.ReadFault.{ReadFault}

@@ -1,5 +1,5 @@
 -- Two messages that were worked by hand.
-use Rattle.std.specs.Prelude.{◌≡◌, true, false, List, [], ◌∷◌, Some, Ok}
+use Rattle.std.specs.Prelude.{◌≡◌, true, [], ◌∷◌, Some, Ok}
 use Rattle.address.specs.declared.labels.Label.{Label}
 use Rattle.address.specs.Address.{subsystem_of}
 use Rattle.message.specs.declared.messages.Form.TheVariants.{Udt, Xudt}

@@ -1,5 +1,5 @@
 -- What stands before the pointers of a message.
-use Rattle.std.specs.Prelude.{ℕ, ◌%◌, Bool, true, false, Some, None, Option, nat_le}
+use Rattle.std.specs.Prelude.{ℕ, ◌%◌, Bool, false, Some, None, Option, nat_le}
 use Rattle.message.specs.declared.messages.Form.{Form}
 use Rattle.message.specs.declared.messages.Form.TheVariants.{Udt, Udts, Xudt, Xudts}
 

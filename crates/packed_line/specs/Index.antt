@@ -1,9 +1,9 @@
 -- Entries of the index.
-use Rattle.std.specs.Prelude.{◌≡◌, ℕ, zero, suc, ◌+◌, ◌-◌, ◌*◌, ◌/◌, ◌%◌, ◌<◌, ◌≤◌, ◌⊎◌, List, [], ◌∷◌, ◌++◌, length, drop, slice_index, slice_index_or, slice_range, refl}
-use Rattle.std.proofs.Common.{arith, add-one, sym, ap, ◌∙◌, subst, inl, inr, below_more}
+use Rattle.std.specs.Prelude.{◌≡◌, ℕ, zero, suc, ◌+◌, ◌-◌, ◌*◌, ◌/◌, ◌%◌, ◌<◌, ◌≤◌, ◌⊎◌, List, ◌++◌, length, drop, slice_index, slice_index_or, slice_range, refl}
+use Rattle.std.proofs.Common.{arith, add-one, sym, ap, ◌∙◌, inl, inr, below_more}
 use Rattle.std.proofs.Math.Seq.{paste}
 use Rattle.std.proofs.lemmas.List.{length-take, length-drop, get_or-take, get_or-drop}
-use Rattle.line.specs.Written.{over, two, two_octets, Holds, SameOut}
+use Rattle.line.specs.Written.{over, two, two_octets, Holds}
 use Rattle.line.proofs.Writes.{over_length, over_in, over_out, two_over}
 use Rattle.packed_line.specs.Pack.{entry_start, entry_octets, offset_of, length_of, moved, lowered}
 

@@ -1,15 +1,15 @@
 -- What a put and a take leave of the messages.
-use Rattle.std.specs.Prelude.{◌≡◌, ℕ, zero, suc, ◌+◌, ◌-◌, ◌*◌, ◌<◌, ◌≤◌, true, ◌⊎◌, List, [], ◌∷◌, ◌++◌, map, length, take, drop, slice_index, refl}
+use Rattle.std.specs.Prelude.{◌≡◌, ℕ, zero, suc, ◌+◌, ◌-◌, ◌*◌, ◌<◌, ◌≤◌, true, List, [], ◌∷◌, ◌++◌, map, length, take, drop, slice_index, refl}
 use Rattle.std.proofs.Common.{arith, zero-add, add-one, sym, ap, ◌∙◌, subst, inl, inr, below_more}
 use Rattle.std.specs.List.{range_with_len}
 use Rattle.std.proofs.lemmas.List.{take_all, length-take, length-drop}
 use Rattle.std.proofs.lemmas.Bool.{cases_order}
 use Rattle.std.proofs.lemmas.List.FromFn.{length-map-range_with_len, map-range_with_len_more}
-use Rattle.line.specs.Meaning.{fits, all_fit, least_octets, most_octets, oldest, others}
-use Rattle.line.specs.Written.{over, two, two_octets, Holds, SameOut}
+use Rattle.line.specs.Meaning.{fits, all_fit, least_octets, most_octets}
+use Rattle.line.specs.Written.{over, Holds, SameOut}
 use Rattle.line.proofs.Writes.{over_length, over_in, over_out, part_same}
-use Rattle.line.proofs.Fitting.{map_same, all_fit_map, fits_bounds, bounds_fit}
-use Rattle.packed_line.specs.Pack.{entry_start, entry_octets, offset_of, length_of, message_of, messages, octets_of, uses, Placed, Held, put_packed, take_packed, moved, lowered}
+use Rattle.line.proofs.Fitting.{map_same, all_fit_map, bounds_fit}
+use Rattle.packed_line.specs.Pack.{entry_start, entry_octets, offset_of, length_of, message_of, messages, octets_of, uses, Placed, Held, put_packed, take_packed, moved}
 use Rattle.packed_line.specs.Index.{Lowered, entry_off, entry_len, entry_same, lowered_length, lowered_out, lowered_is, moved_in, moved_out, moved_same}
 
 -- octets of the first messages

@@ -1,5 +1,5 @@
 -- Messages end to end from the front of an area; their index, four octets each, from its end down.
-use Rattle.std.specs.Prelude.{◌≡◌, ℕ, zero, suc, ◌+◌, ◌-◌, ◌*◌, ◌/◌, ◌<◌, ◌≤◌, true, List, [], ◌∷◌, ◌++◌, map, length, take, drop}
+use Rattle.std.specs.Prelude.{◌≡◌, ℕ, zero, suc, ◌+◌, ◌-◌, ◌*◌, ◌/◌, ◌<◌, true, List, [], ◌∷◌, ◌++◌, map, length, take, drop}
 use Rattle.std.specs.List.{range_with_len}
 use Rattle.line.specs.Meaning.{fits}
 use Rattle.line.specs.Written.{over, two, two_octets}

@@ -1,5 +1,5 @@
 -- What a packed line holds and means, and what its calls leave of its area.
-use Rattle.std.specs.Prelude.{ℕ, ◌+◌, ◌*◌, List, [], ◌∷◌, ◌++◌, Ok, Err, vec_items, vec_len, Result}
+use Rattle.std.specs.Prelude.{ℕ, ◌+◌, ◌*◌, List, Ok, Err, vec_items, Result}
 use Rattle.line.specs.declared.refusal.LineRefusal.{LineRefusal}
 use Rattle.packed_line.specs.declared.packed.PackedLine.{PackedLine}
 use Rattle.packed_line.specs.Pack.{messages, places_beside, put_packed, take_packed}

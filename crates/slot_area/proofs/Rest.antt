@@ -1,6 +1,6 @@
 -- What ticks, releases, copies and the opening do to the slots as they are seen.
-use Rattle.std.proofs.Common.{◌≡◌, ℕ, zero, suc, ◌+◌, ◌-◌, ◌*◌, ◌<◌, ◌≤◌, Bool, true, false, cond, ◌&&◌, eqb, ltb, leb, List, [], ◌∷◌, ◌++◌, map, length, get_or, take, drop, set, replicate, Some, None, Ok, Err, count_by, Option, Result, sym, refl, ap, ◌∙◌, subst, arith}
-use Rattle.std.proofs.lemmas.Bool.{cond-true, cond-false, and_parts, leb-true}
+use Rattle.std.proofs.Common.{◌≡◌, ℕ, zero, suc, ◌+◌, ◌-◌, ◌*◌, ◌<◌, ◌≤◌, Bool, true, false, cond, eqb, ltb, leb, List, [], ◌∷◌, map, length, get_or, take, drop, set, replicate, Some, None, Err, count_by, sym, refl, ap, ◌∙◌, subst, arith}
+use Rattle.std.proofs.lemmas.Bool.{cond-true, and_parts, leb-true}
 use Rattle.std.proofs.lemmas.List.{length-take-le, length-drop}
 use Rattle.std.proofs.lemmas.List.Sums.{sum_by-cons}
 use Rattle.slot_laws.specs.Machine as law
@@ -8,10 +8,9 @@ use Rattle.timed_table.specs.declared.entry.Entry.{Entry}
 use Rattle.timed_table.specs.declared.entry.Entry.TheVariants.{Free, Timed, Held}
 use Rattle.timed_table.specs.Table.{ticked, lapses, is_timed, held_load}
 use Rattle.slot_parts.specs.declared.load.Load.{Load}
-use Rattle.slot_parts.specs.declared.refusals.CopyRefusal.{CopyRefusal}
-use Rattle.slot_parts.specs.declared.refusals.CopyRefusal.TheVariants.{NotWhole, BufferShort}
+use Rattle.slot_parts.specs.declared.refusals.CopyRefusal.TheVariants.{NotWhole}
 use Rattle.slot_area.specs.declared.area.SlotArea.{SlotArea}
-use Rattle.slot_area.specs.Loads.{entry_ok, all_ok}
+use Rattle.slot_area.specs.Loads.{entry_ok}
 use Rattle.slot_area.specs.Became.{Became}
 use Rattle.slot_area.specs.Sound.{Sound}
 use Rattle.slot_area.specs.Pieces.{named_load, freed_entries, release_entries}

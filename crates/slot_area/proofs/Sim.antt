@@ -1,21 +1,20 @@
 -- What the calls do to the slots as they are seen.
-use Rattle.std.proofs.Common.{◌≡◌, ℕ, zero, suc, ◌+◌, ◌-◌, ◌*◌, ◌<◌, ◌≤◌, min, Bool, true, false, cond, not, ◌&&◌, ◌||◌, eqb, ltb, leb, ◌≢◌, ◌⊎◌, List, [], ◌∷◌, ◌++◌, map, length, get_or, take, drop, set, Some, None, Option, sym, refl, ap, ◌∙◌, subst, inl, inr, ⊎_elim, arith}
+use Rattle.std.proofs.Common.{◌≡◌, ℕ, zero, suc, ◌+◌, ◌-◌, ◌*◌, ◌<◌, ◌≤◌, min, Bool, true, false, cond, not, ◌&&◌, ◌||◌, eqb, ltb, leb, ◌≢◌, ◌⊎◌, List, [], ◌∷◌, ◌++◌, length, get_or, take, drop, set, Some, None, Option, sym, refl, ap, ◌∙◌, subst, inl, inr, ⊎_elim, arith}
 use Rattle.slot_area.specs.declared.area.SlotArea.{SlotArea}
 use Rattle.slot_area.specs.Became.{Became}
 use Rattle.slot_area.specs.Sound.{Sound}
 use Rattle.slot_area.proofs.Sounds.{sound_parts}
-use Rattle.std.proofs.lemmas.Bool.{cond_both, cond-true, cond-false, and_from, and_parts, le-leb, leb-true}
-use Rattle.std.proofs.lemmas.List.{take-append-le, take_all, length-take, length-take-le, length-drop, length-append, drop-append-le, drop-take, take-take, drop-drop}
+use Rattle.std.proofs.lemmas.Bool.{and_parts, leb-true}
+use Rattle.std.proofs.lemmas.List.{take-append-le, length-take-le, length-drop, length-append, drop-append-le, drop-take, take-take, drop-drop}
 use Rattle.slot_laws.specs.Machine as law
 use Rattle.timed_table.specs.declared.entry.Entry.{Entry}
 use Rattle.timed_table.specs.declared.entry.Entry.TheVariants.{Free, Timed, Held}
 use Rattle.slot_parts.specs.declared.load.Load.{Load}
 use Rattle.timed_table.specs.Marks.{same_numbers}
-use Rattle.slot_parts.specs.Loads.{load_ok}
 use Rattle.slot_area.specs.Loads.{entry_ok, all_ok}
 use Rattle.slot_parts.specs.Copies.{overwritten}
 use Rattle.timed_table.specs.Table.{timed_as, first_from, last_from, is_free, reloaded}
-use Rattle.slot_parts.specs.Deciding.{decided, first_load, load_limit, grown_load, load_follows}
+use Rattle.slot_parts.specs.Deciding.{decided, first_load, grown_load}
 use Rattle.slot_area.specs.Pieces.{step_for, found_of, found_entry, answer_of, entries_after, octets_after, outside, piece_answer, piece_entries, piece_octets}
 use Rattle.slot_parts.specs.declared.deciding.Found.TheVariants as found
 use Rattle.slot_parts.specs.declared.deciding.Step.{Step}

@@ -1,5 +1,5 @@
 -- The bounds on slots, taken apart and put together.
-use Rattle.std.proofs.Common.{◌≡◌, ℕ, ◌*◌, ◌≤◌, true, ◌&&◌, leb, length}
+use Rattle.std.proofs.Common.{◌≡◌, ◌*◌, ◌≤◌, true, leb, length}
 use Rattle.std.proofs.lemmas.Bool.{and_from, and_parts, le-leb, leb-true}
 use Rattle.slot_area.specs.Loads.{all_ok}
 use Rattle.slot_area.specs.Sound.{soundly, Sound}

@@ -1,5 +1,5 @@
 -- What a piece does to the records and to the store, octet for octet.
-use Rattle.std.specs.Prelude.{◌≡◌, ℕ, ◌+◌, ◌-◌, ◌*◌, ◌/◌, min, Bool, true, false, cond, ◌||◌, List, length, Some, None, Option, ◌==◌, nat_lt, slice_index_or, slice_set}
+use Rattle.std.specs.Prelude.{ℕ, ◌+◌, ◌-◌, ◌*◌, ◌/◌, min, Bool, cond, ◌||◌, List, length, Some, None, Option, ◌==◌, nat_lt, slice_index_or, slice_set}
 use Rattle.slot_laws.specs.Machine as law
 use Rattle.timed_table.specs.Table.{timed_as, reloaded, first_from, last_from, is_free, held_load}
 use Rattle.timed_table.specs.declared.entry.Entry.{Entry}

@@ -1,5 +1,5 @@
 -- The slots as they are seen: each free, open under a mark, or whole, with the octets that lie in its stretch of the store.
-use Rattle.std.specs.Prelude.{◌≡◌, ℕ, zero, suc, ◌+◌, ◌*◌, Bool, true, false, cond, List, [], ◌∷◌, ◌++◌, length, take, drop, Ok, Err, Result, nat_le}
+use Rattle.std.specs.Prelude.{ℕ, suc, ◌*◌, cond, List, [], ◌∷◌, ◌++◌, length, take, drop, Ok, Err, Result, nat_le}
 use Rattle.slot_laws.specs.Machine as law
 use Rattle.timed_table.specs.declared.entry.Entry.{Entry}
 use Rattle.timed_table.specs.declared.entry.Entry.TheVariants.{Free, Timed, Held}
@@ -7,7 +7,6 @@ use Rattle.slot_parts.specs.declared.load.Load.{Load}
 use Rattle.slot_parts.specs.declared.refusals.CopyRefusal.{CopyRefusal}
 use Rattle.slot_parts.specs.declared.refusals.CopyRefusal.TheVariants.{NotWhole, BufferShort}
 use Rattle.slot_area.specs.declared.area.SlotArea.{SlotArea}
-use Rattle.slot_area.specs.Pieces.{slots_of}
 
 -- the slot i, from its entry and the store
 abbrev pub view_one : {K : Type 0} → (K → List ℕ) → ℕ → List ℕ → Entry K Load → law.Slot

@@ -1,5 +1,5 @@
 -- What a translation has gone through.
-use Rattle.std.proofs.Common.{◌≡◌, ℕ, ◌+◌, ◌<◌, ◌≤◌, Bool, true, false, cond, ◌&&◌, eqb, leb, List, [], ◌∷◌, ◌++◌, length, drop, is_some, Some, None, Ok, Err, Option, Result, sym, refl, ap, ◌∙◌, subst, arith, length-append}
+use Rattle.std.proofs.Common.{◌≡◌, ℕ, ◌≤◌, Bool, true, false, cond, ◌&&◌, eqb, leb, List, [], ◌∷◌, length, is_some, Some, None, Ok, Err, Option, Result, sym, refl, ap, ◌∙◌, subst, arith, length-append}
 use Rattle.std.proofs.lemmas.Bool.{false≢true, cond-true, and_from, le-leb}
 use Rattle.address.specs.Address.{address_ok, indicator, title_kind, subsystem_of, title_in}
 use Rattle.address.specs.Rewrite.{rewrite, rewritten, title_part, subsystem_as}
@@ -12,7 +12,7 @@ use Rattle.translation.specs.declared.rules.Selector.{Selector}
 use Rattle.translation.specs.declared.states.CodeState.{CodeState}
 use Rattle.translation.specs.declared.states.SubsystemState.{SubsystemState}
 use Rattle.translation.specs.Rules.{DestinationView, RuleView}
-use Rattle.translation.specs.Translating.{RouteView, unless, route_tried, route_to, or_cause, by_backup, or_backup, route_by, rule_for, by_rule, is_on_subsystem, TranslationView, with_called, route_for, translate_of}
+use Rattle.translation.specs.Translating.{RouteView, unless, route_tried, route_to, or_cause, by_backup, or_backup, route_by, rule_for, by_rule, is_on_subsystem, with_called, route_for, translate_of}
 use Rattle.translation.specs.Trials.{trial_of}
 
 -- a route that can be gone, or none

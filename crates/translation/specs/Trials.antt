@@ -1,5 +1,5 @@
 -- Whether a destination can take a message: none of the causes, or the first in order.
-use Rattle.std.specs.Prelude.{ℕ, Bool, cond, Some, None, Option, ◌==◌}
+use Rattle.std.specs.Prelude.{ℕ, cond, Some, None, Option, ◌==◌}
 use Rattle.translation.specs.declared.causes.Cause.{Cause}
 use Rattle.translation.specs.declared.causes.Cause.TheVariants.{NoTranslation, SubsystemFailure, UnequippedUser, TransferFailure, SccpFailure}
 use Rattle.translation.specs.declared.rules.Routing.{Routing}

@@ -1,4 +1,4 @@
-use Rattle.std.proofs.Common.{◌≡◌, ℕ, ◌+◌, ◌-◌, ◌*◌, ◌≤◌, vec_items, vec_len, sym, refl, ap, ◌∙◌, subst, arith}
+use Rattle.std.proofs.Common.{ℕ, ◌-◌, vec_items, sym, ap, ◌∙◌, subst, arith}
 use Rattle.line.specs.Meaning.{others}
 use Rattle.cell_line.specs.Ring.{messages, Held}
 use Rattle.cell_line.specs.Rings.{wrap_in, ring_take, held_take, ring_length}

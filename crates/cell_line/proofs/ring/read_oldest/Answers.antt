@@ -1,4 +1,4 @@
-use Rattle.std.proofs.Common.{◌≡◌, ◌+◌, ◌*◌, ◌≤◌, List, ◌++◌, length, drop, vec_items, sym, refl, ap, ◌∙◌, arith}
+use Rattle.std.proofs.Common.{◌≡◌, ◌+◌, ◌*◌, ◌≤◌, ◌++◌, length, drop, vec_items, sym, ap, ◌∙◌, arith}
 use Rattle.line.specs.Meaning.{oldest}
 use Rattle.line.specs.Written.{two}
 use Rattle.cell_line.specs.Ring.{cell_octets, cell_message, messages}

@@ -1,8 +1,8 @@
-use Rattle.std.proofs.Common.{◌≡◌, ◌+◌, ◌*◌, ◌≤◌, List, ◌++◌, length, take, drop, sym, refl, ap, ◌∙◌, subst, arith, rules}
+use Rattle.std.proofs.Common.{◌≡◌, ◌+◌, ◌*◌, List, ◌++◌, length, take, drop, sym, refl, ap, ◌∙◌, subst, arith, rules}
 use Rattle.std.proofs.lemmas.List.{take_at}
 use Rattle.line.specs.Written.{over, two_octets}
 use Rattle.line.proofs.Fitting.{fits_bounds}
-use Rattle.cell_line.specs.Ring.{cell_octets, cell_start, messages, Held}
+use Rattle.cell_line.specs.Ring.{cell_octets, messages, Held}
 use Rattle.cell_line.specs.Rings.{Put, wrote, ring_put, held_put, ring_length}
 use Rattle.cell_line.proofs.ring.write_next.Goals as goal
 

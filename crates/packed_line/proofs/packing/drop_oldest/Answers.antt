@@ -1,7 +1,7 @@
-use Rattle.std.proofs.Common.{◌≡◌, ◌+◌, ◌-◌, ◌*◌, ◌≤◌, List, ◌++◌, length, take, drop, vec_items, sym, refl, ap, ◌∙◌, subst, arith, rules}
+use Rattle.std.proofs.Common.{◌≡◌, ◌+◌, ◌-◌, ◌*◌, ◌≤◌, List, ◌++◌, length, take, drop, vec_items, sym, ap, ◌∙◌, subst, arith, rules}
 use Rattle.std.proofs.lemmas.List.{take_at}
 use Rattle.line.specs.Meaning.{oldest, others}
-use Rattle.packed_line.specs.Pack.{messages, octets_of, length_of, offset_of, uses, take_packed, Placed, Held}
+use Rattle.packed_line.specs.Pack.{messages, octets_of, length_of, offset_of, take_packed, Placed, Held}
 use Rattle.packed_line.specs.Lines.{Took, pack_first, pack_take, pack_length, ends_take, placed_take, held_take, uses_is, above_oldest, oldest_in, message_length}
 use Rattle.packed_line.proofs.packing.drop_oldest.Goals as goal
 

@@ -1,4 +1,4 @@
-use Rattle.std.proofs.Common.{◌≡◌, ◌+◌, ◌*◌, ◌≤◌, List, ◌++◌, length, take, drop, vec_items, sym, refl, ap, ◌∙◌, arith}
+use Rattle.std.proofs.Common.{◌≡◌, ◌≤◌, ◌++◌, length, take, drop, vec_items, sym, ap, ◌∙◌, arith}
 use Rattle.line.specs.Meaning.{oldest}
 use Rattle.line.proofs.Fitting.{fits_bounds}
 use Rattle.packed_line.specs.Pack.{length_of, offset_of, message_of, messages}

@@ -1,7 +1,7 @@
 use Rattle.std.proofs.Common.{◌≡◌, ◌+◌, ◌*◌, ◌≤◌, List, ◌++◌, length, take, drop, sym, refl, ap, ◌∙◌, subst, arith, rules}
 use Rattle.std.proofs.lemmas.List.{take_at}
 use Rattle.line.proofs.Fitting.{fits_bounds}
-use Rattle.packed_line.specs.Pack.{messages, octets_of, uses, put_packed, Placed, Held}
+use Rattle.packed_line.specs.Pack.{messages, octets_of, put_packed, Placed, Held}
 use Rattle.packed_line.specs.Lines.{Put, pack_put, pack_length, ends_put, placed_put, held_put, uses_is}
 use Rattle.packed_line.proofs.packing.write_next.Goals as goal
 

@@ -1,5 +1,5 @@
-use Rattle.std.proofs.Common.{◌≡◌, ◌+◌, ◌-◌, ◌*◌, ◌≤◌, length, get_or, sym, refl, ap, ◌∙◌, arith}
-use Rattle.packed_line.specs.Pack.{moved, lowered, offset_of}
+use Rattle.std.proofs.Common.{◌≡◌, ◌+◌, ◌-◌, get_or, ap, ◌∙◌, arith}
+use Rattle.packed_line.specs.Pack.{moved, lowered}
 use Rattle.packed_line.specs.Index.{moved_paste, moved_out, entry_same}
 use Rattle.packed_line.proofs.store.drop_message.Goals as goal
 

@@ -1,4 +1,4 @@
-use Rattle.std.proofs.Common.{◌≡◌, ℕ, ◌+◌, ◌-◌, ◌*◌, ◌≤◌, List, sym, refl, ap, ◌∙◌, subst, arith}
+use Rattle.std.proofs.Common.{◌≡◌, ◌+◌, ◌-◌, sym, ap, ◌∙◌, arith}
 use Rattle.line.specs.Written.{over}
 use Rattle.packed_line.specs.Pack.{entry_start, entry_octets, offset_of, length_of, lowered}
 use Rattle.packed_line.specs.Index.{lowered_next, lowered_more, lowered_none}

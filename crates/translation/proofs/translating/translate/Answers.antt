@@ -1,4 +1,4 @@
-use Rattle.std.proofs.Common.{◌≡◌, ℕ, sym, refl, ◌∙◌, arith}
+use Rattle.std.proofs.Common.{◌≡◌, ℕ, sym, ◌∙◌, arith}
 use Rattle.address.specs.Code.{code_number}
 use Rattle.translation.specs.Translating.{route_seen}
 use Rattle.translation.proofs.Routed.{route_gone, translated, answered}

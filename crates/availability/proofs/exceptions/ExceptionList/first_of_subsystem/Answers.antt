@@ -1,4 +1,4 @@
-use Rattle.std.proofs.Common.{◌≡◌, sym, ◌∙◌}
+use Rattle.std.proofs.Common.{sym, ◌∙◌}
 use Rattle.availability.specs.States.{subsystem_answer}
 use Rattle.availability.proofs.Firsts.{nothing, told_here, told_later, told_none}
 use Rattle.availability.proofs.exceptions.ExceptionList.first_of_subsystem.Goals as goal

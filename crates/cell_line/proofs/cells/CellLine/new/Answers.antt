@@ -1,10 +1,18 @@
-use Rattle.std.proofs.Common.{refl, arith, rules}
+use Rattle.std.proofs.Common.{refl, arith}
 use Rattle.cell_line.specs.Ring.{messages}
 use Rattle.cell_line.proofs.cells.CellLine.new.Goals as goal
 
 pub invariant_of-result : goal.invariant_of-result
 unfolding messages
-invariant_of-result c = (omega arith, (omega arith, (omega arith, (omega arith, (refl, ((λ k l. absurd (omega arith)), tt))))))
+invariant_of-result c =
+    record {
+      whole = omega arith;
+      enough = omega arith;
+      headin = omega arith;
+      countin = omega arith;
+      counted = refl;
+      held = λ k l. absurd (omega arith);
+    }
 
 pub returns : goal.returns
 unfolding messages

@@ -1,4 +1,4 @@
-use Rattle.std.proofs.Common.{◌≡◌, ◌<◌, length, sym, ap, ◌∙◌, arith}
+use Rattle.std.proofs.Common.{length, sym, ap, ◌∙◌, arith}
 use Rattle.message.specs.Options.{segmentation_found}
 use Rattle.message.proofs.Segments.{first_segment, first_ended, first_other}
 use Rattle.message.proofs.parts_of_options.Options.segmentation.Goals as goal

@@ -4,7 +4,17 @@ use Rattle.packed_line.proofs.packed.PackedLine.new.Goals as goal
 
 pub invariant_of-result : goal.invariant_of-result
 unfolding messages octets_of
-invariant_of-result c = (omega arith, (omega arith, (omega arith, (refl, (refl, (refl, ((λ k l. absurd (omega arith)), ((λ k l. absurd (omega arith)), tt))))))))
+invariant_of-result c =
+    record {
+      whole = omega arith;
+      enough = omega arith;
+      room = omega arith;
+      counted = refl;
+      spent = refl;
+      ends = refl;
+      placed = λ k l. absurd (omega arith);
+      held = λ k l. absurd (omega arith);
+    }
 
 pub returns : goal.returns
 unfolding messages

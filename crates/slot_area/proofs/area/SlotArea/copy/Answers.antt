@@ -1,8 +1,8 @@
-use Rattle.std.proofs.Common.{◌≡◌, ◌*◌, ◌<◌, ◌≤◌, true, false, cond, leb, ◌++◌, length, take, drop, Ok, Err, sym, refl, ap, ◌∙◌, arith, take_at}
-use Rattle.std.proofs.lemmas.Bool.{cond-true, cond-false, le-leb}
-use Rattle.slot_parts.specs.declared.refusals.CopyRefusal.TheVariants.{NotWhole, BufferShort}
+use Rattle.std.proofs.Common.{◌≡◌, ◌*◌, true, false, leb, length, take, drop, Ok, Err, sym, refl, ap, ◌∙◌, arith, take_at}
+use Rattle.std.proofs.lemmas.Bool.{cond-true, cond-false}
+use Rattle.slot_parts.specs.declared.refusals.CopyRefusal.TheVariants.{BufferShort}
 use Rattle.slot_laws.specs.Machine.{copy_answer, copied_if, copied}
-use Rattle.slot_area.specs.Answers.{receipt_of, copy_reply}
+use Rattle.slot_area.specs.Answers.{receipt_of}
 use Rattle.slot_area.specs.View.{copy_told, copy_out}
 use Rattle.slot_area.proofs.Rest.{not_whole, is_whole, within}
 use Rattle.slot_area.proofs.area.SlotArea.copy.Goals as goal

@@ -1,4 +1,4 @@
-use Rattle.std.proofs.Common.{◌≡◌, ◌+◌, ◌*◌, ◌<◌, ◌≤◌, length, refl, ap, ◌∙◌, arith}
+use Rattle.std.proofs.Common.{◌≡◌, ◌*◌, ◌≤◌, length, refl, ap, ◌∙◌, arith}
 use Rattle.slot_parts.specs.Copies.{overwritten}
 use Rattle.slot_area.proofs.Sounds.{sound_parts, sound_made}
 use Rattle.slot_area.proofs.area.SlotArea.fill.Goals as goal

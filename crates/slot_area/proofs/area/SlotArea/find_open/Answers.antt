@@ -1,4 +1,4 @@
-use Rattle.std.proofs.Common.{◌≡◌, get_or, Some, sym, ap, ◌∙◌, rules}
+use Rattle.std.proofs.Common.{◌≡◌, get_or, Some, sym, ap, ◌∙◌}
 use Rattle.timed_table.specs.declared.entry.Entry.TheVariants.{Free}
 use Rattle.slot_area.specs.Pieces.{found_of}
 use Rattle.timed_table.specs.Table.{timed_load}

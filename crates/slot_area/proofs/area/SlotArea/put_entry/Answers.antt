@@ -1,8 +1,6 @@
-use Rattle.std.proofs.Common.{length, get_or, refl}
-use Rattle.timed_table.specs.Table.{reloaded}
-use Rattle.timed_table.specs.declared.entry.Entry.TheVariants.{Free}
+use Rattle.std.proofs.Common.{length, refl}
 use Rattle.slot_area.proofs.Sounds.{sound_parts, sound_made}
-use Rattle.slot_area.proofs.Loads.{put_keeps, reloaded_ok, all_ok_at}
+use Rattle.slot_area.proofs.Loads.{put_keeps}
 use Rattle.slot_area.proofs.area.SlotArea.put_entry.Goals as goal
 
 pub returns : goal.returns
