@@ -7,7 +7,7 @@ use Rattle.std.proofs.lemmas.Bool.{false≢true, ltb-true, ltb-false}
 use Rattle.translation.specs.declared.rules.Selector.{Selector}
 use Rattle.translation.specs.Rules.{RuleView}
 use Rattle.prefix_list.specs.declared.entries.PrefixEntry.{PrefixEntry}
-use Rattle.prefix_list.specs.Prefixes.{entry_fits, better, longer_of, longest, rule_of, entry_rule}
+use Rattle.prefix_list.specs.Prefixes.{entry_fits, better, longer_of, longest, rule_of}
 use Rattle.prefix_list.specs.Longest.{Fits, NoneFits, rule_given_by, Decided, LongestDecides}
 use Rattle.prefix_list.proofs.Ranges.{rule_in, fits_out, fits_in}
 

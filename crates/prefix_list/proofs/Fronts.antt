@@ -1,6 +1,6 @@
 -- Digits that begin with others.
-use Rattle.std.proofs.Common.{◌≡◌, ℕ, Bool, true, false, ◌&&◌, eqb, List, [], ◌∷◌, ◌++◌, length, take, drop, Decides, sym, refl, ap, ◌∙◌, arith}
-use Rattle.std.specs.Cmp.Lexicographic.{Matches}
+use Rattle.std.proofs.Common.{◌≡◌, ℕ, Bool, true, eqb, List, [], ◌∷◌, ◌++◌, length, take, drop, Decides, refl, ap, ◌∙◌, arith}
+use Rattle.std.specs.Cmp.Lexicographic.{pointwise}
 use Rattle.std.proofs.lemmas.Slice.Eq.{starts_is}
 use Rattle.std.proofs.lemmas.Bool.{and_parts, and_from, eqb-true, eq-eqb}
 use Rattle.std.proofs.lemmas.Bool.Decides.{same_from_decides, Decides-eqb}
@@ -26,7 +26,7 @@ begins_from p s rest e = ap (begins p) e ∙ begins_itself p rest
 pub begins_decides : (p s : List ℕ) → Decides (begins p s) ((rest : List ℕ) × (s ≡ p ++ rest))
 begins_decides p s = (rest_of p s, λ h. begins_from p s h.0 h.1)
 
-pub starts_begins : (s p : List ℕ) (r : Bool) → Matches (λ (a b : ℕ) (t : Bool). Decides t (a ≡ b)) p (take (length p) s) r → r ≡ begins p s
+pub starts_begins : (s p : List ℕ) (r : Bool) → r ≡ pointwise eqb p (take (length p) s) → r ≡ begins p s
 starts_begins s p r h =
     let k = starts_is Decides-eqb s p r h in
     same_from_decides {P = (rest : List ℕ) × (s ≡ p ++ rest)} r (begins p s) (λ t. (drop (length p) s, k.0 t), λ x. k.1 x.0 x.1) (begins_decides p s)

@@ -1,9 +1,9 @@
 -- Whether an entry fits, as a test and as a fact.
-use Rattle.std.proofs.Common.{◌≡◌, ℕ, ◌<◌, ◌≤◌, Bool, true, false, cond, ◌&&◌, ◌||◌, eqb, ltb, leb, ◌⊎◌, List, [], ◌∷◌, ◌++◌, is_some, Some, None, Decides, Option, sym, refl, ap, ◌∙◌, inl, inr, ⊎_elim, arith}
+use Rattle.std.proofs.Common.{◌≡◌, ℕ, ◌≤◌, Bool, true, false, cond, ◌&&◌, ◌||◌, eqb, ltb, leb, ◌⊎◌, List, [], ◌∷◌, is_some, Some, None, Option, sym, refl, ap, ◌∙◌, inl, inr, ⊎_elim, arith}
 use Rattle.std.specs.List.{AllByRecursion as All}
 use Rattle.std.proofs.lemmas.Bool.{false≢true, and_parts, and_from, or_cases, or_left, or_right, eqb-true, eq-eqb, ltb-true, lt-ltb, leb-true, le-leb, cond-true}
 use Rattle.translation.specs.declared.rules.Selector.{Selector}
-use Rattle.translation.specs.Rules.{DestinationView, RuleView}
+use Rattle.translation.specs.Rules.{DestinationView}
 use Rattle.prefix_list.specs.declared.entries.EntryDestination.{EntryDestination}
 use Rattle.prefix_list.specs.declared.entries.PrefixEntry.{PrefixEntry}
 use Rattle.prefix_list.specs.Prefixes.{all_below, begins, same_selector, prefix_of, selector_ranged, prefix_ranged, destination_in, with_both, with_backup, with_primary, entry_rule, entry_fits}

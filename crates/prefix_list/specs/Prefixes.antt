@@ -1,5 +1,5 @@
 -- Which entry of a prefix list fits the digits of a title, and which of those decides.
-use Rattle.std.specs.Prelude.{ℕ, Bool, true, false, cond, ◌&&◌, ◌||◌, List, [], ◌∷◌, length, take, is_some, Some, None, fold, Option, ◌==◌, nat_le, nat_lt}
+use Rattle.std.specs.Prelude.{ℕ, Bool, true, false, cond, ◌&&◌, ◌||◌, List, [], ◌∷◌, take, is_some, Some, None, fold, Option, ◌==◌, nat_le, nat_lt}
 use Rattle.translation.specs.declared.rules.Selector.{Selector}
 use Rattle.translation.specs.Rules.{DestinationView, RuleView}
 use Rattle.prefix_list.specs.declared.entries.EntryDestination.{EntryDestination}

@@ -1,4 +1,4 @@
-use Rattle.std.proofs.Common.{◌≡◌, sym, ap, ◌∙◌, take_all}
+use Rattle.std.proofs.Common.{sym, ap, ◌∙◌, take_all}
 use Rattle.prefix_list.specs.Prefixes.{longest}
 use Rattle.prefix_list.proofs.Steps.{nothing, longest_step, longest_none}
 use Rattle.prefix_list.proofs.lists.PrefixList.entry_for.Goals as goal

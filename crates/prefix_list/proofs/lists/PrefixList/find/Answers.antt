@@ -1,4 +1,4 @@
-use Rattle.std.proofs.Common.{◌≡◌, None, ap, ◌∙◌}
+use Rattle.std.proofs.Common.{None, ap, ◌∙◌}
 use Rattle.prefix_list.specs.Prefixes.{rule_of}
 use Rattle.prefix_list.proofs.Choosing.{longest_decides}
 use Rattle.prefix_list.proofs.lists.PrefixList.find.Goals as goal
