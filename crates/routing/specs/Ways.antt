@@ -1,5 +1,5 @@
 -- Where a message that was received goes.
-use Rattle.std.specs.Prelude.{ℕ, ◌-◌, Bool, true, false, cond, List, Some, None, Ok, Err, Option, Result, ◌==◌, nat_lt}
+use Rattle.std.specs.Prelude.{ℕ, ◌-◌, cond, List, Some, None, Ok, Err, Option, Result, ◌==◌, nat_lt}
 use Rattle.address.specs.Code.{code_number}
 use Rattle.address.specs.Address.{on_subsystem, subsystem_of}
 use Rattle.address.specs.Rewrite.{buffer_octets}
