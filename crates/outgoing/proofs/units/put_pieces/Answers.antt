@@ -5,16 +5,16 @@ use Rattle.outgoing.specs.Units.{heading_seen, piece_message}
 use Rattle.outgoing.proofs.Pieces.{front, behind_long, behind_short, one_at_most, step, last_step, goes, piece_fits, count}
 use Rattle.outgoing.proofs.units.put_pieces.Goals as goal
 
-pub slice-bounds-put_piece-end : goal.slice-bounds-put_piece-end
-slice-bounds-put_piece-end g c =
+pub slice_bounds-put_piece-end : goal.slice_bounds-put_piece-end
+slice_bounds-put_piece-end g c =
     let whole : c.args.each ≤ length c.loop-left.rest.now = front c.loop-left.left c.args.each _ c.loop-left-test.true c.loop-left.invariant.4 in
     search rules
 
-pub slice-bounds-rest-count : goal.slice-bounds-rest-count
-slice-bounds-rest-count g c = front c.loop-left.left c.args.each _ c.loop-left-test.true c.loop-left.invariant.4
+pub slice_bounds-rest-count : goal.slice_bounds-rest-count
+slice_bounds-rest-count g c = front c.loop-left.left c.args.each _ c.loop-left-test.true c.loop-left.invariant.4
 
-pub slice-bounds-rest-start : goal.slice-bounds-rest-start
-slice-bounds-rest-start g c =
+pub slice_bounds-rest-start : goal.slice_bounds-rest-start
+slice_bounds-rest-start g c =
     let whole : c.args.each ≤ length c.loop-left.rest.now = front c.loop-left.left c.args.each _ c.loop-left-test.true c.loop-left.invariant.4 in
     search rules
 
