@@ -1,5 +1,5 @@
 -- An address that lacks a code can be written with one.
-use Rattle.std.proofs.Common.{◌≡◌, ℕ, Bool, true, not, ◌&&◌, leb, List, length, is_some, Some, None, Option, sym, ◌∙◌, arith}
+use Rattle.std.proofs.Common.{◌≡◌, ℕ, true, not, ◌&&◌, leb, List, length, is_some, Some, None, arith}
 use Rattle.std.proofs.lemmas.Bool.{and_parts, and_from, cond-true, le-leb}
 use Rattle.address.specs.declared.codes.PointCode.{PointCode}
 use Rattle.address.specs.declared.rewriting.CodeChange.TheVariants.{Put}

@@ -1,11 +1,11 @@
 -- Pieces fit the line, and are put one behind the other.
-use Rattle.std.proofs.Common.{◌≡◌, ℕ, zero, suc, ◌+◌, ◌-◌, ◌*◌, ◌<◌, ◌≤◌, Bool, true, false, cond, ◌&&◌, eqb, leb, List, [], ◌∷◌, ◌++◌, length, take, drop, Ok, Err, Result, sym, refl, ap, ◌∙◌, subst, append_assoc, add-mul, arith}
+use Rattle.std.proofs.Common.{◌≡◌, ℕ, zero, suc, ◌+◌, ◌-◌, ◌*◌, ◌<◌, ◌≤◌, Bool, true, false, ◌&&◌, eqb, leb, List, [], ◌∷◌, ◌++◌, length, take, drop, Ok, Err, Result, sym, refl, ap, ◌∙◌, subst, append_assoc, add-mul, arith}
 use Rattle.std.proofs.lemmas.Bool.{and_from, le-leb, ne_eqb, cond-true, cond-false}
 use Rattle.translation.specs.declared.causes.Cause.{Cause}
-use Rattle.translation.specs.declared.causes.Cause.TheVariants.{Unqualified, NetworkCongestion}
+use Rattle.translation.specs.declared.causes.Cause.TheVariants.{NetworkCongestion}
 use Rattle.message.specs.Read.{Parsed}
 use Rattle.pieces.specs.Pieces.{in_one, in_piece}
-use Rattle.writing.specs.Write.{encode, short_enough, near_enough, lengths_of, kept, size}
+use Rattle.writing.specs.Write.{encode, short_enough, near_enough, lengths_of, kept}
 use Rattle.outgoing.specs.Puts.{fits_line, put_outcome, put_by}
 use Rattle.outgoing.specs.Units.{Heading, one_message, piece_message, piece_messages}
 

@@ -1,5 +1,5 @@
 -- Calling addresses as they are written, and messages that are passed on.
-use Rattle.std.specs.Prelude.{ℕ, ◌/◌, ◌%◌, Bool, true, false, cond, not, ◌&&◌, List, [], ◌∷◌, is_some, Some, None, Option}
+use Rattle.std.specs.Prelude.{ℕ, ◌/◌, ◌%◌, Bool, cond, not, ◌&&◌, List, [], ◌∷◌, is_some, Some, None, Option}
 use Rattle.address.specs.Address.{address_ok, on_subsystem, code_of, subsystem_of}
 use Rattle.address.specs.Rewrite.{rewrite_with}
 use Rattle.message.specs.declared.messages.Form.{Form}

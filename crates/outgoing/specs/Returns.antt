@@ -1,5 +1,5 @@
 -- A message that cannot be brought to where its called address says: returned, told here, or discarded.
-use Rattle.std.specs.Prelude.{ℕ, ◌%◌, Bool, true, false, cond, not, ◌&&◌, List, [], Some, None, Ok, Err, Option, Result}
+use Rattle.std.specs.Prelude.{ℕ, ◌%◌, Bool, cond, not, ◌&&◌, List, [], Some, Ok, Err, Option, Result}
 use Rattle.address.specs.Address.{address_empty, on_subsystem, code_of}
 use Rattle.message.specs.declared.messages.Form.{Form}
 use Rattle.message.specs.declared.messages.Form.TheVariants.{Udt, Udts, Xudt, Xudts}

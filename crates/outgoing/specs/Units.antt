@@ -1,5 +1,5 @@
 -- The messages in which a unit goes out: one XUDT, or pieces, each an XUDT with segmentation.
-use Rattle.std.specs.Prelude.{◌≡◌, ℕ, zero, suc, ◌+◌, ◌*◌, ◌/◌, ◌%◌, ◌<◌, ◌≤◌, Bool, true, false, cond, ◌&&◌, List, [], ◌∷◌, length, take, drop, ◌==◌}
+use Rattle.std.specs.Prelude.{◌≡◌, ℕ, zero, suc, ◌+◌, ◌*◌, ◌/◌, ◌%◌, ◌<◌, ◌≤◌, Bool, false, cond, ◌&&◌, List, [], ◌∷◌, length, take, drop, ◌==◌}
 use Rattle.message.specs.declared.messages.Form.TheVariants.{Xudt}
 use Rattle.message.specs.Read.{Parsed}
 use Rattle.writing.specs.Write.{encode}
