@@ -4,7 +4,6 @@ use Rattle.std.proofs.lemmas.List.{length_push, same_from_push}
 use Rattle.address.specs.Address.{address_ok}
 use Rattle.address.proofs.Rewrites.{good_parts}
 use Rattle.routing.specs.Meanings.{Tables}
-use Rattle.slot_laws.specs.Machine as law
 use Rattle.station_laws.specs.Station.{Event, send, receive}
 use Rattle.station_laws.specs.Uses as uses
 use Rattle.station_laws.specs.Uses.{Use, outcome, Piece, Coming}

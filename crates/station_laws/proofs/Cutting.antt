@@ -6,7 +6,7 @@ use Rattle.address.specs.Address.{address_ok, code_of}
 use Rattle.address.proofs.Rewrites.{good_parts}
 use Rattle.message.specs.declared.messages.Form.TheVariants.{Xudt}
 use Rattle.message.specs.Options.{segmentation_found, span_on}
-use Rattle.writing.specs.Write.{encode, size}
+use Rattle.writing.specs.Write.{encode}
 use Rattle.writing.specs.RoundTrip.{form_ok, scanned, segmented_by, IsMessage}
 use Rattle.writing.proofs.Back.{written_reads_back}
 use Rattle.pieces.specs.Pieces.{in_one, in_piece, piece_count, in_range, sendable, count_answer}

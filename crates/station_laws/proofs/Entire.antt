@@ -7,7 +7,7 @@ use Rattle.slot_laws.specs.Machine as law
 use Rattle.slot_laws.specs.Uses as laws
 use Rattle.slot_laws.proofs.Arrive as arrive
 use Rattle.station_laws.specs.Station.{View, from_pieces, by_slots, Outcome, piece_told, told_outcome, Event, receive, copy}
-use Rattle.station_laws.specs.Uses.{Use, after, outcome, tick_count, Sender, Piece, Unreleased, Apart, Coming, begins, between, continues}
+use Rattle.station_laws.specs.Uses.{Use, after, outcome, Sender, Piece, Unreleased, Apart, Coming, begins, between, continues}
 use Rattle.station_laws.specs.Laws.{ArrivesEntire}
 use Rattle.station_laws.proofs.Project.{felt, slotly, project, slots_agree, ticks_agree}
 use Rattle.station_laws.proofs.Sender.{mark_of, same_sender, felt_reads, piece_felt, piece_taken, unreleased_felt}

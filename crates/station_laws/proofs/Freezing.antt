@@ -23,7 +23,7 @@ use Rattle.outgoing.specs.Puts.{put_outcome}
 use Rattle.outgoing.specs.Addressed.{message_passed_on}
 use Rattle.outgoing.specs.Returns.{give_back}
 use Rattle.outgoing.specs.Units.{Heading}
-use Rattle.station_laws.specs.Station.{View, with_slots, Reply, declined, unread, no_way, handed_up, notice, from_pieces, by_slots, passed_on, returned, told_here, discarded, sent_here, sent_one, sent_pieces, Outcome, quiet, given_outcome, caused, piece_told, told_outcome, piece_outcome, piece_of, unmarked, brought, passing, routed_by, received, Request, check, heading_of, next, in_pieces, by_count, send_to, unit_length, sends, Event, send, receive, tick, copy, release, ticks, station_step}
+use Rattle.station_laws.specs.Station.{View, with_slots, Reply, declined, unread, no_way, handed_up, notice, from_pieces, by_slots, passed_on, returned, told_here, discarded, sent_here, sent_one, sent_pieces, Outcome, quiet, given_outcome, caused, piece_told, told_outcome, piece_outcome, piece_of, unmarked, brought, passing, routed_by, received, Request, check, heading_of, next, in_pieces, by_count, send_to, unit_length, sends, Event, send, receive, tick, copy, release, station_step}
 use Rattle.station_laws.specs.Uses.{Use, after, outcome, is_tick, tick_count}
 use Rattle.station_laws.specs.Laws.{NeverShared}
 

@@ -5,7 +5,7 @@ use Rattle.slot_laws.specs.Machine as law
 use Rattle.slot_laws.specs.Uses as laws
 use Rattle.slot_laws.proofs.Time as time
 use Rattle.station_laws.specs.Station.{Event, tick}
-use Rattle.station_laws.specs.Uses.{Use, outcome, tick_count}
+use Rattle.station_laws.specs.Uses.{Use, outcome}
 use Rattle.station_laws.specs.Laws.{Ends, handed, broken, restarted, lapsed, Over, now_over, before, Opens, NoOpeningOutlives}
 use Rattle.station_laws.proofs.Project.{felt, slotly, project, slots_agree, replies_agree, says_hands, says_by, by_said, ticks_agree, felt_tick}
 

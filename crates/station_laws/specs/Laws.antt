@@ -10,7 +10,7 @@ use Rattle.slot_laws.specs.Uses.{Mem, counts_opened, counts_handed, counts_broke
 use Rattle.outgoing.specs.Puts.{label_to}
 use Rattle.routing.specs.Meanings.{Tables}
 use Rattle.routing.specs.Ways.{to_subsystem, way_for}
-use Rattle.station_laws.specs.Station.{View, Reply, declined, unread, no_way, handed_up, notice, from_pieces, by_slots, passed_on, returned, told_here, discarded, sent_here, sent_one, sent_pieces, Outcome, Request, Event, send, receive, tick, copy, release}
+use Rattle.station_laws.specs.Station.{Reply, declined, unread, no_way, handed_up, notice, from_pieces, by_slots, passed_on, returned, told_here, discarded, sent_here, sent_one, sent_pieces, Request, Event, send, receive, tick, copy}
 use Rattle.station_laws.specs.Uses.{Use, after, outcome, tick_count, Sender, Joined, HandedUp, Unreleased, Piece, Apart, Coming}
 
 -- the slots declined

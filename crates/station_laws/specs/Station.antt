@@ -1,5 +1,5 @@
 -- A station over lists: what one call does to it, what it answers, and what it puts on the line.
-use Rattle.std.specs.Prelude.{◌≡◌, ℕ, zero, suc, ◌+◌, ◌%◌, Bool, true, false, cond, ◌&&◌, ◌||◌, List, [], ◌∷◌, ◌++◌, map, length, Some, None, Ok, Err, Option, Result, ◌==◌, nat_le, nat_lt, slice_set}
+use Rattle.std.specs.Prelude.{ℕ, zero, suc, ◌+◌, ◌%◌, Bool, true, cond, ◌&&◌, ◌||◌, List, [], ◌∷◌, ◌++◌, map, length, Some, None, Ok, Err, Option, Result, ◌==◌, nat_le, nat_lt, slice_set}
 use Rattle.address.specs.Address.{address_ok, code_of}
 use Rattle.message.specs.declared.faults.ReadFault.{ReadFault}
 use Rattle.message.specs.declared.parts_of_options.Segmentation.{Segmentation}
@@ -8,7 +8,7 @@ use Rattle.writing.specs.Write.{encode}
 use Rattle.pieces.specs.Pieces.{in_piece, count_answer}
 use Rattle.slot_laws.specs.Machine as law
 use Rattle.timed_table.specs.declared.entry.Entry.{Entry}
-use Rattle.timed_table.specs.declared.entry.Entry.TheVariants.{Free, Timed, Held}
+use Rattle.timed_table.specs.declared.entry.Entry.TheVariants.{Timed}
 use Rattle.timed_table.specs.declared.reference.Reference.{Reference}
 use Rattle.timed_table.specs.Table.{last_from, is_free, ticked}
 use Rattle.translation.specs.declared.causes.Cause.{Cause}
@@ -19,7 +19,7 @@ use Rattle.routing.specs.Deliveries.{DeliveryView, as_unit, as_notice, as_piece,
 use Rattle.routing.specs.Targets.{TargetView, at_home, away, no_target, target_for}
 use Rattle.outgoing.specs.declared.returning.Givenback.{Givenback}
 use Rattle.outgoing.specs.declared.returning.Givenback.TheVariants.{Returned, ToldHere, Discarded}
-use Rattle.outgoing.specs.Puts.{put_outcome, put_by}
+use Rattle.outgoing.specs.Puts.{put_outcome}
 use Rattle.outgoing.specs.Addressed.{message_passed_on}
 use Rattle.outgoing.specs.Returns.{Return, give_back, calling_for}
 use Rattle.outgoing.specs.Units.{Heading, selection, one_message, piece_messages}

@@ -9,7 +9,7 @@ use Rattle.slot_laws.specs.Uses.{Mem}
 use Rattle.timed_table.specs.declared.entry.Entry.TheVariants.{Free}
 use Rattle.routing.specs.Meanings.{Tables}
 use Rattle.routing.specs.Ways.{to_subsystem, way_for}
-use Rattle.station_laws.specs.Station.{View, Reply, declined, unread, no_way, handed_up, notice, from_pieces, by_slots, passed_on, returned, told_here, discarded, sent_here, sent_one, sent_pieces, Outcome, Event, send, receive, tick, copy, release, station_step}
+use Rattle.station_laws.specs.Station.{View, from_pieces, by_slots, Outcome, Event, send, receive, tick, copy, release, station_step}
 
 -- what was made by opening: how many slots and reference entries there are, how many ticks an opening has, and the station's code
 pub record Use : Type 0 where
