@@ -1,5 +1,5 @@
 -- A piece that is not taken in: what the station does with it.
-use Rattle.std.proofs.Common.{◌≡◌, ℕ, Bool, true, false, cond, Ok, Err, Result, sym, refl, ap, ◌∙◌, subst}
+use Rattle.std.proofs.Common.{◌≡◌, ℕ, Bool, true, false, cond, Err, sym, ap, ◌∙◌}
 use Rattle.message.specs.declared.parts_of_options.Segmentation.{Segmentation}
 use Rattle.message.specs.Read.{Parsed}
 use Rattle.translation.specs.declared.causes.Cause.{Cause}
@@ -8,7 +8,7 @@ use Rattle.slot_laws.specs.Machine as law
 use Rattle.routing.specs.Meanings.{Tables}
 use Rattle.routing.specs.Deliveries.{DeliveryView, as_piece}
 use Rattle.outgoing.specs.Returns.{give_back}
-use Rattle.station_laws.specs.Station.{View, Reply, Outcome, with_slots, given_outcome, caused, piece_told, told_outcome, piece_outcome, piece_of, unmarked, brought}
+use Rattle.station_laws.specs.Station.{View, with_slots, given_outcome, caused, piece_told, told_outcome, piece_outcome, piece_of, unmarked, brought}
 
 module _ (t : Tables) (own T places : ℕ) (v : View) (s : ℕ) (p : Parsed) (c : Cause) where
   not_taken : (b : Bool) (o : law.Step) (w : View) → Err c ≡ cond b (Err Unqualified) (piece_told s p o.1) → w ≡ cond b v (with_slots v o.0)

@@ -1,7 +1,6 @@
 -- How many messages a unit needs, and what follows from it.
-use Rattle.std.proofs.Common.{◌≡◌, ℕ, zero, suc, ◌+◌, ◌-◌, ◌*◌, ◌/◌, ◌<◌, ◌≤◌, Bool, true, false, cond, ◌&&◌, eqb, leb, List, length, IfErr, None, Ok, Err, Result, sym, refl, ap, ◌∙◌, one-mul, arith}
-use Rattle.std.proofs.lemmas.Bool.{and_parts, cond-true, cond-false, cond_both, leb-true, leb-false}
-use Rattle.message.specs.Read.{Parsed}
+use Rattle.std.proofs.Common.{◌≡◌, ℕ, zero, suc, ◌+◌, ◌-◌, ◌*◌, ◌/◌, ◌<◌, ◌≤◌, Bool, true, false, cond, ◌&&◌, eqb, leb, List, length, IfErr, None, Ok, Err, Result, sym, refl, ap, one-mul, arith}
+use Rattle.std.proofs.lemmas.Bool.{and_parts, cond-true, cond_both, leb-true, leb-false}
 use Rattle.translation.specs.declared.causes.Cause.{Cause}
 use Rattle.translation.specs.declared.causes.Cause.TheVariants.{Unqualified, NetworkCongestion}
 use Rattle.pieces.specs.Pieces.{in_one, in_piece, piece_count, in_range, sendable, count_answer}
@@ -11,7 +10,7 @@ use Rattle.outgoing.specs.Puts.{fits_line, put_outcome}
 use Rattle.outgoing.specs.Units.{Heading, one_message, Cut}
 use Rattle.outgoing.proofs.Pieces.{one_fits}
 use Rattle.station_laws.specs.Station.{View, Outcome, by_count, in_one_message, in_pieces}
-use Rattle.station_laws.proofs.Cutting.{Number, number, count_if}
+use Rattle.station_laws.proofs.Cutting.{number, count_if}
 
 -- addresses and unit have lengths that can be sent
 pub ranges : (a b n : ℕ) → in_range a b n ≡ true → (2 ≤ a) × (a ≤ 32) × (2 ≤ b) × (b ≤ 32) × (1 ≤ n) × (n ≤ 3952)

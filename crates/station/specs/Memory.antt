@@ -1,12 +1,10 @@
 -- What a call leaves in the lent memory.
-use Rattle.std.specs.Prelude.{◌≡◌, ℕ, Bool, cond, List, Some, None, Ok, Err, Option, Result, ◌==◌}
+use Rattle.std.specs.Prelude.{◌≡◌, ℕ, cond, Some, None, Ok, Err, Option, Result, ◌==◌}
 use Rattle.message.specs.declared.faults.ReadFault.{ReadFault}
 use Rattle.message.specs.declared.parts_of_options.Segmentation.{Segmentation}
 use Rattle.message.specs.Read.{Parsed}
-use Rattle.timed_table.specs.declared.entry.Entry.{Entry}
 use Rattle.timed_table.specs.declared.station_mark.StationMark.{StationMark}
 use Rattle.timed_table.specs.StationMarks.{station_numbers}
-use Rattle.slot_parts.specs.declared.load.Load.{Load}
 use Rattle.slot_area.specs.declared.area.SlotArea.{SlotArea}
 use Rattle.slot_area.specs.Became.{Became}
 use Rattle.slot_area.specs.Pieces.{piece_entries, piece_octets}

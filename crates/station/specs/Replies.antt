@@ -1,10 +1,9 @@
 -- The answers of the calls, as the laws speak of them: every case with its values, and every refusal with its number.
-use Rattle.std.specs.Prelude.{ℕ, List, Ok, Err, Result}
+use Rattle.std.specs.Prelude.{ℕ, Ok, Err, Result}
 use Rattle.message.specs.Read.{seen}
 use Rattle.translation.specs.declared.causes.Cause.{Cause}
 use Rattle.slot_laws.specs.Machine as law
 use Rattle.slot_area.specs.Answers.{receipt_of}
-use Rattle.outgoing.specs.Units.{Heading}
 use Rattle.station_laws.specs.Station.{Reply, declined, unread, no_way, handed_up, notice, from_pieces, by_slots, passed_on, returned, told_here, discarded, sent_here, sent_one, sent_pieces}
 use Rattle.station.specs.declared.answers.Received.{Received}
 use Rattle.station.specs.declared.answers.Received.TheVariants as received

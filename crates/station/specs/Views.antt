@@ -1,13 +1,12 @@
 -- A station as the laws see it.
 use Rattle.std.specs.Prelude.{ℕ, min, List, length}
-use Rattle.message.specs.Read.{Parsed, parse}
-use Rattle.slot_laws.specs.Machine as law
+use Rattle.message.specs.Read.{Parsed}
 use Rattle.timed_table.specs.StationMarks.{station_numbers}
 use Rattle.slot_parts.specs.declared.settings.Settings.{Settings}
 use Rattle.slot_area.specs.Pieces.{slots_of}
 use Rattle.slot_area.specs.View.{view}
 use Rattle.routing.specs.Meanings.{Tables}
-use Rattle.station_laws.specs.Station.{View, Outcome, Request, Event, station_step, routed, sends}
+use Rattle.station_laws.specs.Station.{View, Outcome, Request, Event, station_step, routed}
 use Rattle.station_laws.specs.Uses.{Use}
 use Rattle.station.specs.declared.held.Station.{Station}
 use Rattle.station.specs.declared.requests.UnitDataRequest.{UnitDataRequest}

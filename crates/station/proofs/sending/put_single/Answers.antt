@@ -1,7 +1,7 @@
-use Rattle.std.proofs.Common.{◌≡◌, ℕ, Bool, eqb, List, [], ◌∷◌, sym, ap, ◌∙◌, subst}
+use Rattle.std.proofs.Common.{◌≡◌, eqb, [], ◌∷◌, sym, ap, ◌∙◌, subst}
 use Rattle.std.proofs.lemmas.Bool.{cond-true, cond-false}
 use Rattle.writing.specs.Write.{encode}
-use Rattle.outgoing.specs.Puts.{Behind, put_by}
+use Rattle.outgoing.specs.Puts.{Behind}
 use Rattle.outgoing.specs.Units.{heading_seen, one_message, selection}
 use Rattle.station_laws.specs.Station.{View, Outcome, quiet, declined, sent_one, in_one_message}
 use Rattle.station.proofs.Counting.{out_one, placed, not_placed}

@@ -1,4 +1,4 @@
-use Rattle.std.proofs.Common.{◌≡◌, ℕ, List, sym, ap, ◌∙◌, subst}
+use Rattle.std.proofs.Common.{ℕ, List, sym, ap, ◌∙◌, subst}
 use Rattle.message.specs.Read.{seen as parts_seen}
 use Rattle.routing.specs.Deliveries.{DeliveryView, delivery_of}
 use Rattle.routing.specs.Meanings.{tables}
@@ -6,7 +6,6 @@ use Rattle.outgoing.specs.Puts.{Behind}
 use Rattle.outgoing.specs.Returns.{give_back}
 use Rattle.station_laws.specs.Station.{Outcome, given_reply}
 use Rattle.station.specs.Memory.{Slots, delivered_to}
-use Rattle.station.specs.Replies.{received_as}
 use Rattle.station.specs.Views.{seen}
 use Rattle.station.proofs.Bringing.{piece_not_taken}
 use Rattle.station.proofs.held.Station.bring.Goals as goal

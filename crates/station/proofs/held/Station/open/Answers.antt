@@ -1,9 +1,4 @@
-use Rattle.std.proofs.Common.{◌≡◌, ℕ, ◌≤◌, min, List, length, replicate, refl, ◌∙◌, arith}
-use Rattle.slot_laws.specs.Machine as law
-use Rattle.timed_table.specs.declared.entry.Entry.{Entry}
-use Rattle.timed_table.specs.declared.entry.Entry.TheVariants.{Free}
-use Rattle.timed_table.specs.declared.reference.Reference.{Reference}
-use Rattle.station_laws.specs.Station.{View}
+use Rattle.std.proofs.Common.{◌≤◌, min, length, refl, ◌∙◌, arith}
 use Rattle.station_laws.proofs.Project.{account, declined_alters_nothing}
 use Rattle.station_laws.proofs.Outlive.{no_opening_outlives}
 use Rattle.station_laws.proofs.Sender.{one_sender, kept}

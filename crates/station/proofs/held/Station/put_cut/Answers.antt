@@ -1,4 +1,4 @@
-use Rattle.std.proofs.Common.{◌+◌, ◌-◌, ◌%◌, ◌<◌, ◌≤◌, arith}
+use Rattle.std.proofs.Common.{◌+◌, ◌%◌, ◌<◌, arith}
 use Rattle.outgoing.specs.Units.{heading_seen}
 use Rattle.station.proofs.Counting.{cut_so}
 use Rattle.station.proofs.held.Station.put_cut.Goals as goal

@@ -1,5 +1,4 @@
-use Rattle.std.proofs.Common.{◌≡◌, ℕ, ◌-◌, ◌≤◌, length, None, sym, refl, ap, ◌∙◌, subst, rules}
-use Rattle.pieces.specs.Pieces.{count_answer}
+use Rattle.std.proofs.Common.{◌≡◌, ◌-◌, ◌≤◌, None, sym, refl, ap, ◌∙◌, subst, rules}
 use Rattle.timed_table.specs.Table.{last_from, is_free}
 use Rattle.outgoing.specs.Puts.{Behind}
 use Rattle.outgoing.specs.Units.{heading_seen}

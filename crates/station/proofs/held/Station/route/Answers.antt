@@ -1,4 +1,4 @@
-use Rattle.std.proofs.Common.{◌≡◌, ℕ, List, subst}
+use Rattle.std.proofs.Common.{◌≡◌, subst}
 use Rattle.message.specs.Read.{seen as parts_seen}
 use Rattle.message.specs.declared.messages.Parts.{Parts}
 use Rattle.routing.specs.Meanings.{tables}

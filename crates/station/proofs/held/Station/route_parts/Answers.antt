@@ -1,8 +1,8 @@
-use Rattle.std.proofs.Common.{◌≡◌, ℕ, true, eqb, List, None, Option, sym, refl, ap, ◌∙◌, subst}
+use Rattle.std.proofs.Common.{◌≡◌, ℕ, true, eqb, None, Option, sym, ap, ◌∙◌, subst}
 use Rattle.std.proofs.lemmas.Bool.{cond-true, eq-eqb}
 use Rattle.message.specs.Read.{seen as parts_seen}
 use Rattle.routing.specs.Meanings.{tables}
-use Rattle.routing.specs.Ways.{WayView, way_of, way_for}
+use Rattle.routing.specs.Ways.{way_of, way_for}
 use Rattle.outgoing.specs.Puts.{Behind}
 use Rattle.station_laws.specs.Station.{Outcome, routed_by, quiet, declined}
 use Rattle.station.specs.Memory.{Incoming, Slots, incoming, incoming_by}
