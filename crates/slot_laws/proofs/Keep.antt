@@ -179,7 +179,7 @@ set_free (s ∷ ss) zero (suc i) x e = (e, λ q. omega arith)
 set_free (s ∷ ss) (suc j) zero x e = (e, λ q. omega arith)
 set_free (s ∷ ss) (suc j) (suc i) x e = let w = set_free ss j i x e in (w.0, λ q. w.1 (omega arith))
 
-released_inj : (i j : ℕ) → released i ≡ released j → i ≡ j
+pub released_inj : (i j : ℕ) → released i ≡ released j → i ≡ j
 released_inj i j e = cc
 
 keeps_release : (ss : List Slot) (j : ℕ) (s : Slot) → Keeps ss (release_step ss j s)
@@ -199,7 +199,7 @@ keeps_copy ss room free = keeps_same ss (declined 51) refl
 keeps_copy ss room (opened o) = keeps_same ss (declined 51) refl
 keeps_copy ss room (whole d) = keeps_copied ss d (leb (length d) room)
 
-keeps : (C T : ℕ) (ss : List Slot) (e : Event) → Keeps ss (step C T ss e)
+pub keeps : (C T : ℕ) (ss : List Slot) (e : Event) → Keeps ss (step C T ss e)
 keeps C T ss (piece m f r d) = keeps_piece C T ss m f r d (proper r d)
 keeps C T ss tick = keeps_tick ss (lapse_count ss)
 keeps C T ss (release r) = keeps_release ss r.slot (named C ss r)
