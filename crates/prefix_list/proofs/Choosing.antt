@@ -1,6 +1,6 @@
 -- The longest prefix decides.
 use Rattle.std.proofs.Common.{◌≡◌, ℕ, ◌<◌, ◌≤◌, Bool, true, false, cond, ltb, List, [], ◌∷◌, ◌++◌, Some, None, fold, Option, sym, refl, ap, ◌∙◌, subst, arith}
-use Rattle.std.specs.List.{AllByRecursion as All}
+use Rattle.std.specs.List.{AllByRecursion}
 use Rattle.std.proofs.ByRecursion.{All-push, All-weaker, All-append}
 use Rattle.std.proofs.lemmas.List.{append-nil, append_assoc}
 use Rattle.std.proofs.lemmas.Bool.{false≢true, ltb-true, ltb-false}
@@ -17,11 +17,11 @@ record Best (s : Selector) (ds : List ℕ) (done : List PrefixEntry) (e : Prefix
   behind : List PrefixEntry
   whole : done ≡ before ++ (e ∷ behind)
   fits : entry_fits s ds e ≡ true
-  shorter : All (λ x. entry_fits s ds x ≡ true → x.count < e.count) before
-  not_longer : All (λ x. entry_fits s ds x ≡ true → x.count ≤ e.count) behind
+  shorter : AllByRecursion (λ x. entry_fits s ds x ≡ true → x.count < e.count) before
+  not_longer : AllByRecursion (λ x. entry_fits s ds x ≡ true → x.count ≤ e.count) behind
 
 abbrev Chosen : Selector → List ℕ → List PrefixEntry → Option PrefixEntry → Type 0
-Chosen s ds done None = All (λ x. entry_fits s ds x ≡ false) done
+Chosen s ds done None = AllByRecursion (λ x. entry_fits s ds x ≡ false) done
 Chosen s ds done (Some e) = Best s ds done e
 
 -- an entry that does not take the place of the best
@@ -37,10 +37,10 @@ kept s ds done e x h l =
     }
 
 -- all that were gone through are shorter than one that is longer than the best
-all_shorter : (s : Selector) (ds : List ℕ) (done : List PrefixEntry) (e x : PrefixEntry) → Best s ds done e → e.count < x.count → All (λ y. entry_fits s ds y ≡ true → y.count < x.count) done
+all_shorter : (s : Selector) (ds : List ℕ) (done : List PrefixEntry) (e x : PrefixEntry) → Best s ds done e → e.count < x.count → AllByRecursion (λ y. entry_fits s ds y ≡ true → y.count < x.count) done
 all_shorter s ds done e x h l =
     let P : PrefixEntry → Type 0 = λ y. entry_fits s ds y ≡ true → y.count < x.count in
-    subst (All P) (sym h.whole)
+    subst (AllByRecursion P) (sym h.whole)
     (All-append P h.before (e ∷ h.behind)
     (All-weaker (λ y. entry_fits s ds y ≡ true → y.count < e.count) P (λ y f t. omega (arith, f t)) h.before h.shorter)
     (λ _. l, All-weaker (λ y. entry_fits s ds y ≡ true → y.count ≤ e.count) P (λ y f t. omega (arith, f t)) h.behind h.not_longer))

@@ -1,6 +1,6 @@
 -- Whether an entry fits, as a test and as a fact.
 use Rattle.std.proofs.Common.{◌≡◌, ℕ, ◌≤◌, Bool, true, false, cond, ◌&&◌, ◌||◌, eqb, ltb, leb, ◌⊎◌, List, [], ◌∷◌, is_some, Some, None, Option, sym, refl, ap, ◌∙◌, inl, inr, ⊎_elim, arith}
-use Rattle.std.specs.List.{AllByRecursion as All}
+use Rattle.std.specs.List.{AllByRecursion}
 use Rattle.std.proofs.lemmas.Bool.{false≢true, and_parts, and_from, or_cases, or_left, or_right, eqb-true, eq-eqb, ltb-true, lt-ltb, leb-true, le-leb, cond-true}
 use Rattle.translation.specs.declared.rules.Selector.{Selector}
 use Rattle.translation.specs.Rules.{DestinationView}
@@ -10,13 +10,13 @@ use Rattle.prefix_list.specs.Prefixes.{all_below, begins, same_selector, prefix_
 use Rattle.prefix_list.specs.Longest.{CodeRanged, BackupRanged, Ranged, Fits, destination_given, backup_given, rule_given_by}
 use Rattle.prefix_list.proofs.Fronts.{rest_of, begins_from}
 
-digits_in : (xs : List ℕ) → all_below 16 xs ≡ true → All (λ d. d ≤ 15) xs
+digits_in : (xs : List ℕ) → all_below 16 xs ≡ true → AllByRecursion (λ d. d ≤ 15) xs
 digits_in [] h = tt
 digits_in (x ∷ xs) h =
     let both = and_parts (ltb x 16) (all_below 16 xs) h in
     (omega (arith, ltb-true x 16 both.0), digits_in xs both.1)
 
-digits_out : (xs : List ℕ) → All (λ d. d ≤ 15) xs → all_below 16 xs ≡ true
+digits_out : (xs : List ℕ) → AllByRecursion (λ d. d ≤ 15) xs → all_below 16 xs ≡ true
 digits_out [] h = refl
 digits_out (x ∷ xs) h =
     let l : x ≤ 15 = h.0 in

@@ -1,6 +1,6 @@
 -- The longest prefix decides: what a keeper of a prefix list can rely on.
 use Rattle.std.specs.Prelude.{◌≡◌, ℕ, ◌<◌, ◌≤◌, ◌⊎◌, List, ◌∷◌, ◌++◌, Some, None, Option}
-use Rattle.std.specs.List.{AllByRecursion as All}
+use Rattle.std.specs.List.{AllByRecursion}
 use Rattle.translation.specs.declared.rules.Selector.{Selector}
 use Rattle.translation.specs.Rules.{DestinationView, RuleView}
 use Rattle.prefix_list.specs.declared.entries.EntryDestination.{EntryDestination}
@@ -20,7 +20,7 @@ pub record Ranged (e : PrefixEntry) : Type 0 where
   pub plan : e.selector.numbering_plan ≤ 15
   pub nature : e.selector.nature ≤ 127
   pub count : e.count ≤ 16
-  pub digits : All (λ d. d ≤ 15) (prefix_of e)
+  pub digits : AllByRecursion (λ d. d ≤ 15) (prefix_of e)
   pub primary : CodeRanged e.primary
   pub backup : BackupRanged e.backup
 
@@ -31,7 +31,7 @@ pub record Fits (s : Selector) (ds : List ℕ) (e : PrefixEntry) : Type 0 where
   pub front : (rest : List ℕ) × (ds ≡ prefix_of e ++ rest)
 
 abbrev pub NoneFits : Selector → List ℕ → List PrefixEntry → Type 0
-NoneFits s ds es = All (λ e. Fits s ds e → ⊥) es
+NoneFits s ds es = AllByRecursion (λ e. Fits s ds e → ⊥) es
 
 abbrev pub destination_given : EntryDestination → DestinationView
 destination_given d = record { code = d.code; subsystem = d.subsystem }
@@ -53,8 +53,8 @@ pub record Decided (s : Selector) (ds : List ℕ) (es : List PrefixEntry) (r : R
   pub whole : es ≡ before ++ (decider ∷ behind)
   pub fits : Fits s ds decider
   pub rule : r ≡ rule_given_by decider
-  pub shorter : All (λ e. Fits s ds e → e.count < decider.count) before
-  pub not_longer : All (λ e. Fits s ds e → e.count ≤ decider.count) behind
+  pub shorter : AllByRecursion (λ e. Fits s ds e → e.count < decider.count) before
+  pub not_longer : AllByRecursion (λ e. Fits s ds e → e.count ≤ decider.count) behind
 
 -- what is answered is so decided, and none is answered exactly if none fits
 pub record LongestDecides (s : Selector) (ds : List ℕ) (es : List PrefixEntry) (answer : Option RuleView) : Type 0 where
