@@ -171,7 +171,7 @@ mod tests {
         assert_eq!(rt; p.calling.subsystem(), Some(6));
         assert!(rt; p.called.on_subsystem() && p.calling.on_subsystem());
         assert_eq!(rt; p.called.code(), None);
-        assert!(rt; p.data == &[0xa1, 0xa2, 0xa3]);
+        assert!(rt; p.data == [0xa1, 0xa2, 0xa3].as_slice());
         assert!(rt; p.options.octets().is_empty());
         Ok(())
     }
@@ -196,7 +196,7 @@ mod tests {
         assert_eq!(rt; p.options.segmentation(), Some(piece));
         let mut options = p.options;
         match options.next_part() {
-            OptionPart::Other { name, contents } => assert!(rt; name == 0x12 && contents == &[3]),
+            OptionPart::Other { name, contents } => assert!(rt; name == 0x12 && contents == [3].as_slice()),
             _ => return Err(Fail::new("another name is first")),
         }
         match options.next_part() {

@@ -2,7 +2,6 @@
 // script comes from the file that the first argument names, or from the standard input.
 #![tactic(auto)]
 
-mod failing;
 mod lines_used;
 mod list_mark;
 mod list_marks;
@@ -12,7 +11,6 @@ mod slots_used;
 mod tables_used;
 mod words;
 
-use failing::Failed;
 use scripts::Desk;
 use std::alloc::Global;
 use std::io::{BufRead, BufReader};
@@ -46,7 +44,7 @@ fn script(rt: &HostRuntime) -> anyhow::Result<Vec<String>> {
     }
 }
 
-fn run(rt: &HostRuntime, lines: &[String]) -> Result<(), Failed> {
+fn run(rt: &HostRuntime, lines: &[String]) -> anyhow::Result<()> {
     let mut desk = Desk::new(rt.alloc());
     let mut i = 0;
     while i < lines.len() {
@@ -61,20 +59,7 @@ fn run(rt: &HostRuntime, lines: &[String]) -> Result<(), Failed> {
     Ok(())
 }
 
-fn main(rt: HostRuntime) -> Result<(), Failed> {
-    let ran = match script(&rt) {
-        Ok(lines) => run(&rt, lines.as_slice()),
-        Err(e) => Err(Failed::Error(e)),
-    };
-    match ran {
-        Ok(()) => Ok(()),
-        Err(Failed::Error(e)) => {
-            let told: anyhow::Result<()> = Err(e);
-            match told {
-                Ok(()) => Ok(()),
-                Err(e) => Err(Failed::Error(e)),
-            }
-        }
-        Err(Failed::Receipts(r)) => Err(Failed::Receipts(r)),
-    }
+fn main(rt: HostRuntime) -> anyhow::Result<()> {
+    let lines = script(&rt)?;
+    run(&rt, lines.as_slice())
 }

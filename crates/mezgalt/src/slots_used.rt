@@ -1,14 +1,13 @@
 // The commands on slots used alone: `slots` opens them, and until the script ends or opens
 // others, `piece`, `tick`, `copy`, `release` and `account` are theirs.
-ghost use Rattle.std.specs.Prelude.{◌<◌, ◌≤◌, length, IfSome, IfOk, vec_len};
+ghost use Rattle.std.specs.Prelude.{◌<◌, ◌≤◌, length, IfOk};
 
-use crate::failing::Failed;
 use crate::list_mark::ListMark;
 use crate::scripts::Desk;
 use crate::words::BadLine;
 use crate::{scripts, words};
-use anyhow::anyhow;
-use slots::{Entry, Load, PieceAnswer, Receipt, Settings, Slots};
+use kept_receipts::{KeptAnswer, KeptReceipts};
+use slots::{Entry, Load, Receipt, Settings};
 use std::alloc::Global;
 
 const MOST_SLOTS: usize = 16;
@@ -22,12 +21,6 @@ struct Account {
     handed_up: u64,
     broken: u64,
     lapsed: u64,
-}
-
-// The receipts that are not spent yet, and the account.
-struct Kept {
-    receipts: Vec<Receipt>,
-    account: Account,
 }
 
 // What a `slots` line asks for.
@@ -73,45 +66,39 @@ fn count(account: Account, opened: bool, broken: bool) -> Account {
 
 fn give(
     rt: &HostRuntime,
-    slots: &mut Slots<'_, ListMark>,
-    kept: &mut Kept,
+    slots: &mut KeptReceipts<'_, ListMark>,
+    account: &mut Account,
     mark: ListMark,
     first: bool,
     remaining: u8,
     unit: &[u8],
 ) -> anyhow::Result<()> {
-    if kept.receipts.reserve(1).is_err() {
-        return Err(anyhow!("no memory for a receipt"));
-    }
-    match slots.piece(mark, first, remaining, unit) {
-        Ok(PieceAnswer::Alone { unit }) => {
+    match slots.piece(mark, first, remaining, unit)? {
+        Ok(KeptAnswer::Alone { unit }) => {
             let text = hexadecimal::text_of(rt.alloc(), unit)?;
             println!(rt; "piece: handed up, data={text}")?
         }
-        Ok(PieceAnswer::NoSlots) => println!(rt;
+        Ok(KeptAnswer::NoSlots) => println!(rt;
             "piece: cause 10: there are no slots to put pieces together in"
         )?,
-        Ok(PieceAnswer::NoneFree) => println!(rt; "piece: cause 6: no slot is free")?,
-        Ok(PieceAnswer::Opened { slot }) => {
-            kept.account = count(kept.account, true, false);
+        Ok(KeptAnswer::NoneFree) => println!(rt; "piece: cause 6: no slot is free")?,
+        Ok(KeptAnswer::Opened { slot }) => {
+            *account = count(*account, true, false);
             println!(rt; "piece: opened slot {slot}")?
         }
-        Ok(PieceAnswer::Restarted { slot }) => {
-            kept.account = count(kept.account, true, true);
+        Ok(KeptAnswer::Restarted { slot }) => {
+            *account = count(*account, true, true);
             println!(rt; "piece: restarted slot {slot}")?
         }
-        Ok(PieceAnswer::Stray) => println!(rt; "piece: stray")?,
-        Ok(PieceAnswer::Broken { slot }) => {
-            kept.account = count(kept.account, false, true);
+        Ok(KeptAnswer::Stray) => println!(rt; "piece: stray")?,
+        Ok(KeptAnswer::Broken { slot }) => {
+            *account = count(*account, false, true);
             println!(rt; "piece: broken slot {slot}")?
         }
-        Ok(PieceAnswer::Held { slot }) => println!(rt; "piece: held slot {slot}")?,
-        Ok(PieceAnswer::HandedUp { receipt }) => {
-            let slot = receipt.slot();
-            let octets = receipt.length();
-            kept.receipts.push_reserved(receipt);
-            kept.account.handed_up = add(kept.account.handed_up);
-            println!(rt; "piece: handed up from pieces, slot {slot}, {octets} octets")?
+        Ok(KeptAnswer::Held { slot }) => println!(rt; "piece: held slot {slot}")?,
+        Ok(KeptAnswer::HandedUp { slot, length }) => {
+            account.handed_up = add(account.handed_up);
+            println!(rt; "piece: handed up from pieces, slot {slot}, {length} octets")?
         }
         Err(why) => {
             let number = why.number();
@@ -142,8 +129,8 @@ fn read_given(heap: Global, rest: &str) -> Result<Given, BadLine> {
 
 fn piece(
     rt: &HostRuntime,
-    slots: &mut Slots<'_, ListMark>,
-    kept: &mut Kept,
+    slots: &mut KeptReceipts<'_, ListMark>,
+    account: &mut Account,
     rest: &str,
 ) -> anyhow::Result<Result<(), BadLine>> {
     match read_given(rt.alloc(), rest) {
@@ -151,7 +138,7 @@ fn piece(
             give(
                 rt,
                 slots,
-                kept,
+                account,
                 g.mark,
                 g.first,
                 g.remaining,
@@ -165,8 +152,8 @@ fn piece(
 
 fn tick(
     rt: &HostRuntime,
-    slots: &mut Slots<'_, ListMark>,
-    kept: &mut Kept,
+    slots: &mut KeptReceipts<'_, ListMark>,
+    account: &mut Account,
     rest: &str,
 ) -> anyhow::Result<Result<(), BadLine>> {
     let times = match words::number_or_one(rest) {
@@ -177,22 +164,10 @@ fn tick(
     for _ in 0..times {
         lapsed = lapsed.saturating_add(slots.tick());
     }
-    kept.account.lapsed = kept.account.lapsed.saturating_add(lapsed as u64);
+    account.lapsed = account.lapsed.saturating_add(lapsed as u64);
     let ticks = if times == 1 { "tick" } else { "ticks" };
     println!(rt; "tick: {times} {ticks}, {lapsed} lapsed")?;
     Ok(Ok(()))
-}
-
-// The place of the receipt of a slot.
-fn place_of(receipts: &Vec<Receipt>, slot: usize) -> Option<usize>
-    ensures { IfSome result (λ i. i < vec_len receipts.now) }
-{
-    for (i, r) in receipts.as_slice().iter().enumerate() {
-        if r.slot() == slot {
-            return Some(i);
-        }
-    }
-    None
 }
 
 // The slot and perhaps the size of a buffer behind `copy`.
@@ -210,7 +185,7 @@ fn slot_and_size(rest: &str) -> Result<(usize, usize), BadLine> {
 
 fn tell_copy(
     rt: &HostRuntime,
-    slots: &Slots<'_, ListMark>,
+    slots: &KeptReceipts<'_, ListMark>,
     receipt: &Receipt,
     size: usize,
 ) -> anyhow::Result<()> {
@@ -231,19 +206,22 @@ fn tell_copy(
 
 fn copy(
     rt: &HostRuntime,
-    slots: &Slots<'_, ListMark>,
-    kept: &Kept,
+    slots: &KeptReceipts<'_, ListMark>,
     rest: &str,
 ) -> anyhow::Result<Result<(), BadLine>> {
-    match slot_and_size(rest) {
-        Ok((slot, size)) => match place_of(&kept.receipts, slot) {
-            Some(i) => {
-                tell_copy(rt, slots, &kept.receipts[i], size)?;
-                Ok(Ok(()))
-            }
-            None => Ok(Err(BadLine::NoReceipt)),
-        },
-        Err(bad) => Ok(Err(bad)),
+    let (slot, size) = match slot_and_size(rest) {
+        Ok(asked) => asked,
+        Err(bad) => return Ok(Err(bad)),
+    };
+    let Some(place) = slots.place_of(slot) else {
+        return Ok(Err(BadLine::NoReceipt));
+    };
+    match slots.receipt(place) {
+        Some(receipt) => {
+            tell_copy(rt, slots, receipt, size)?;
+            Ok(Ok(()))
+        }
+        None => Ok(Err(BadLine::NoReceipt)),
     }
 }
 
@@ -253,25 +231,19 @@ fn slot_behind(rest: &str) -> Result<usize, BadLine> {
 
 fn release(
     rt: &HostRuntime,
-    slots: &mut Slots<'_, ListMark>,
-    kept: &mut Kept,
+    slots: &mut KeptReceipts<'_, ListMark>,
     rest: &str,
 ) -> anyhow::Result<Result<(), BadLine>> {
     let slot = match slot_behind(rest) {
         Ok(slot) => slot,
         Err(bad) => return Ok(Err(bad)),
     };
-    match place_of(&kept.receipts, slot) {
-        Some(i) => {
-            let receipt = kept.receipts.remove(i);
-            match slots.release(receipt) {
-                Ok(()) => println!(rt; "release: slot {slot} free")?,
-                Err((why, back)) => {
-                    let number = why.number();
-                    kept.receipts.push_reserved(back);
-                    println!(rt; "release: refused {number}: {why}")?
-                }
-            }
+    let Some(place) = slots.place_of(slot) else {
+        return Ok(Err(BadLine::NoReceipt));
+    };
+    match slots.release(place) {
+        Some(slot) => {
+            println!(rt; "release: slot {slot} free")?;
             Ok(Ok(()))
         }
         None => Ok(Err(BadLine::NoReceipt)),
@@ -280,14 +252,14 @@ fn release(
 
 fn tell_account(
     rt: &HostRuntime,
-    slots: &Slots<'_, ListMark>,
-    kept: &Kept,
+    slots: &KeptReceipts<'_, ListMark>,
+    account: &Account,
     rest: &str,
 ) -> anyhow::Result<Result<(), BadLine>> {
     if let Err(bad) = words::no_words(rest) {
         return Ok(Err(bad));
     }
-    let a = kept.account;
+    let a = *account;
     let open = slots.open_slots();
     println!(rt;
         "account: opened={} handed-up={} broken={} lapsed={} open={open}",
@@ -300,17 +272,17 @@ fn tell_account(
 fn play(
     rt: &HostRuntime,
     desk: &mut Desk,
-    slots: &mut Slots<'_, ListMark>,
-    kept: &mut Kept,
+    slots: &mut KeptReceipts<'_, ListMark>,
+    account: &mut Account,
     line: &str,
 ) -> anyhow::Result<()> {
     let (word, rest) = words::parted(words::before_comment(line));
     let done = match word {
-        "piece" => piece(rt, slots, kept, rest)?,
-        "tick" => tick(rt, slots, kept, rest)?,
-        "copy" => copy(rt, slots, kept, rest)?,
-        "release" => release(rt, slots, kept, rest)?,
-        "account" => tell_account(rt, slots, kept, rest)?,
+        "piece" => piece(rt, slots, account, rest)?,
+        "tick" => tick(rt, slots, account, rest)?,
+        "copy" => copy(rt, slots, rest)?,
+        "release" => release(rt, slots, rest)?,
+        "account" => tell_account(rt, slots, account, rest)?,
         _ => return scripts::play(rt, desk, line),
     };
     scripts::finish(rt, desk, done)
@@ -320,8 +292,8 @@ fn play(
 fn play_on(
     rt: &HostRuntime,
     desk: &mut Desk,
-    slots: &mut Slots<'_, ListMark>,
-    kept: &mut Kept,
+    slots: &mut KeptReceipts<'_, ListMark>,
+    account: &mut Account,
     lines: &[String],
     at: usize,
 ) -> anyhow::Result<usize>
@@ -334,26 +306,10 @@ fn play_on(
             return Ok(i);
         }
         scripts::begin(desk);
-        play(rt, desk, slots, kept, lines[i].as_str())?;
+        play(rt, desk, slots, account, lines[i].as_str())?;
         i += 1;
     }
     Ok(i)
-}
-
-// Spends every receipt that is left.
-fn close(slots: &mut Slots<'_, ListMark>, kept: Kept) -> Result<(), Failed> {
-    let Kept {
-        mut receipts,
-        account: _,
-    } = kept;
-    while let Some(r) = receipts.pop() {
-        if let Err((_, back)) = slots.release(r) {
-            receipts.push_reserved(back);
-            return Err(Failed::Receipts(receipts));
-        }
-    }
-    receipts.destroy_empty();
-    Ok(())
 }
 
 fn free_records(heap: Global, n: usize) -> Result<Vec<Entry<ListMark, Load>>, BadLine> {
@@ -374,7 +330,7 @@ fn play_open(
     asked: Wanted,
     lines: &[String],
     at: usize,
-) -> Result<usize, Failed>
+) -> anyhow::Result<usize>
     requires { at < length lines.now }
     ensures { IfOk result (λ i. (at < i) × (i ≤ length lines.now)) }
 {
@@ -387,22 +343,21 @@ fn play_open(
     };
     let n = asked.records.min(asked.store / STRETCH).min(MOST_SLOTS);
     println!(rt; "slots: code {}, T {}, {n} slots", asked.code, asked.ticks)?;
-    let mut slots = Slots::open(settings, records.as_mut_slice(), store.as_mut_slice());
-    let mut kept = Kept {
-        receipts: Vec::new(rt.alloc()),
-        account: Account {
-            opened: 0,
-            handed_up: 0,
-            broken: 0,
-            lapsed: 0,
-        },
+    let mut slots = KeptReceipts::open(
+        rt.alloc(),
+        settings,
+        records.as_mut_slice(),
+        store.as_mut_slice(),
+    );
+    let mut account = Account {
+        opened: 0,
+        handed_up: 0,
+        broken: 0,
+        lapsed: 0,
     };
-    let ended = play_on(rt, desk, &mut slots, &mut kept, lines, at + 1);
-    close(&mut slots, kept)?;
-    match ended {
-        Ok(i) => Ok(i),
-        Err(e) => Err(Failed::Error(e)),
-    }
+    let ended = play_on(rt, desk, &mut slots, &mut account, lines, at + 1);
+    slots.close();
+    ended
 }
 
 // The `slots` line at a place, and those behind it; answers where the next begins.
@@ -411,7 +366,7 @@ pub fn play_slots(
     desk: &mut Desk,
     lines: &[String],
     at: usize,
-) -> Result<usize, Failed>
+) -> anyhow::Result<usize>
     requires { at < length lines.now }
     ensures { IfOk result (λ i. (at < i) × (i ≤ length lines.now)) }
 {

@@ -1,6 +1,7 @@
-// Calls of slots used alone, each answered by a line. The receipts that are given lie in a Vec, and are named by their place in it.
+// Calls of slots used alone, each answered by a line. The receipts that are given are kept, and are named by their place.
 use anyhow::anyhow;
-use slots::{Entry, Load, PieceAnswer, Receipt, Reference, Slots};
+use kept_receipts::{KeptAnswer, KeptReceipts};
+use slots::{CopyRefusal, Entry, Load, Receipt, Reference, ReleaseRefusal, Slots};
 use std::alloc::Global;
 
 // A piece is given by mark, remaining, length and an octet, of which all its data consists.
@@ -37,33 +38,26 @@ fn say_octets(rt: &HostRuntime, octets: &[u8]) -> anyhow::Result<()> {
 
 fn piece(
     rt: &HostRuntime,
-    slots: &mut Slots<'_, Reference>,
-    kept: &mut Vec<Receipt>,
+    slots: &mut KeptReceipts<'_, Reference>,
     mark: u32,
     first: bool,
     remaining: u8,
     unit: &[u8],
 ) -> anyhow::Result<()> {
-    if kept.reserve(1).is_err() {
-        return Err(anyhow!("no memory"));
-    }
-    match slots.piece(Reference { number: mark }, first, remaining, unit) {
-        Ok(PieceAnswer::Alone { unit }) => {
+    match slots.piece(Reference { number: mark }, first, remaining, unit)? {
+        Ok(KeptAnswer::Alone { unit }) => {
             print!(rt; "handed up:")?;
             say_octets(rt, unit)?
         }
-        Ok(PieceAnswer::NoSlots) => println!(rt; "cause 10")?,
-        Ok(PieceAnswer::NoneFree) => println!(rt; "cause 6")?,
-        Ok(PieceAnswer::Opened { slot }) => println!(rt; "opened slot {slot}")?,
-        Ok(PieceAnswer::Restarted { slot }) => println!(rt; "restarted slot {slot}")?,
-        Ok(PieceAnswer::Stray) => println!(rt; "stray")?,
-        Ok(PieceAnswer::Broken { slot }) => println!(rt; "broken slot {slot}")?,
-        Ok(PieceAnswer::Held { slot }) => println!(rt; "held slot {slot}")?,
-        Ok(PieceAnswer::HandedUp { receipt }) => {
-            let slot = receipt.slot();
-            let len = receipt.length();
-            kept.push_reserved(receipt);
-            println!(rt; "handed up from pieces, slot {slot}, {len} octets")?
+        Ok(KeptAnswer::NoSlots) => println!(rt; "cause 10")?,
+        Ok(KeptAnswer::NoneFree) => println!(rt; "cause 6")?,
+        Ok(KeptAnswer::Opened { slot }) => println!(rt; "opened slot {slot}")?,
+        Ok(KeptAnswer::Restarted { slot }) => println!(rt; "restarted slot {slot}")?,
+        Ok(KeptAnswer::Stray) => println!(rt; "stray")?,
+        Ok(KeptAnswer::Broken { slot }) => println!(rt; "broken slot {slot}")?,
+        Ok(KeptAnswer::Held { slot }) => println!(rt; "held slot {slot}")?,
+        Ok(KeptAnswer::HandedUp { slot, length }) => {
+            println!(rt; "handed up from pieces, slot {slot}, {length} octets")?
         }
         Err(why) => {
             let number = why.number();
@@ -73,7 +67,11 @@ fn piece(
     Ok(())
 }
 
-fn tick(rt: &HostRuntime, slots: &mut Slots<'_, Reference>, times: u8) -> anyhow::Result<()> {
+fn tick(
+    rt: &HostRuntime,
+    slots: &mut KeptReceipts<'_, Reference>,
+    times: u8,
+) -> anyhow::Result<()> {
     let mut lapsed = 0usize;
     for _ in 0..times {
         lapsed = lapsed.saturating_add(slots.tick());
@@ -82,22 +80,16 @@ fn tick(rt: &HostRuntime, slots: &mut Slots<'_, Reference>, times: u8) -> anyhow
     Ok(())
 }
 
-// A copy into a buffer of `room` octets, all CC before.
-pub fn copy(
+// What a copy answered, and what the buffer then holds.
+fn say_copied(
     rt: &HostRuntime,
-    slots: &Slots<'_, Reference>,
-    kept: &Vec<Receipt>,
-    place: usize,
-    room: usize,
+    copied: Result<usize, CopyRefusal>,
+    buffer: &[u8],
 ) -> anyhow::Result<()> {
-    let mut buffer = vec![in rt.alloc(); 0xCCu8; room]?;
-    if place >= kept.len() {
-        return Err(anyhow!("no such receipt"));
-    }
-    match slots.copy(&kept[place], buffer.as_mut_slice()) {
+    match copied {
         Ok(n) => {
             print!(rt; "copied {n}:")?;
-            say_octets(rt, buffer.as_slice())?
+            say_octets(rt, buffer)?
         }
         Err(why) => {
             let number = why.number();
@@ -107,46 +99,104 @@ pub fn copy(
     Ok(())
 }
 
-// The receipt at a place is spent, and the later ones move down. A declined one comes back, at the end.
-pub fn release(
+// A copy of the unit of a receipt that some keep into a buffer of `room` octets, all CC before.
+pub fn copy(
     rt: &HostRuntime,
-    slots: &mut Slots<'_, Reference>,
-    kept: &mut Vec<Receipt>,
+    slots: &KeptReceipts<'_, Reference>,
+    keeper: &KeptReceipts<'_, Reference>,
     place: usize,
+    room: usize,
 ) -> anyhow::Result<()> {
-    if place >= kept.len() {
-        return Err(anyhow!("no such receipt"));
+    let mut buffer = vec![in rt.alloc(); 0xCCu8; room]?;
+    match keeper.receipt(place) {
+        Some(receipt) => {
+            let copied = slots.copy(receipt, buffer.as_mut_slice());
+            say_copied(rt, copied, buffer.as_slice())
+        }
+        None => Err(anyhow!("no such receipt")),
     }
-    let receipt = kept.remove(place);
-    match slots.release(receipt) {
-        Ok(()) => println!(rt; "released")?,
-        Err((why, back)) => {
+}
+
+// The same of a receipt of their own.
+pub fn copy_own(
+    rt: &HostRuntime,
+    slots: &KeptReceipts<'_, Reference>,
+    place: usize,
+    room: usize,
+) -> anyhow::Result<()> {
+    let mut buffer = vec![in rt.alloc(); 0xCCu8; room]?;
+    match slots.receipt(place) {
+        Some(receipt) => {
+            let copied = slots.copy(receipt, buffer.as_mut_slice());
+            say_copied(rt, copied, buffer.as_slice())
+        }
+        None => Err(anyhow!("no such receipt")),
+    }
+}
+
+// The same from slots that keep no receipts.
+pub fn copy_from(
+    rt: &HostRuntime,
+    slots: &Slots<'_, Reference>,
+    receipt: Option<&Receipt>,
+    room: usize,
+) -> anyhow::Result<()> {
+    let mut buffer = vec![in rt.alloc(); 0xCCu8; room]?;
+    match receipt {
+        Some(receipt) => {
+            let copied = slots.copy(receipt, buffer.as_mut_slice());
+            say_copied(rt, copied, buffer.as_slice())
+        }
+        None => Err(anyhow!("no such receipt")),
+    }
+}
+
+// What an offer of a receipt was answered.
+pub fn say_offered(
+    rt: &HostRuntime,
+    offered: Option<Result<(), ReleaseRefusal>>,
+) -> anyhow::Result<()> {
+    match offered {
+        Some(Ok(())) => println!(rt; "released")?,
+        Some(Err(why)) => {
             let number = why.number();
-            kept.push_reserved(back);
             println!(rt; "refused {number}: {why}")?
         }
+        None => return Err(anyhow!("no such receipt")),
+    }
+    Ok(())
+}
+
+// The receipt at a place is spent, and the later ones move down.
+pub fn release(
+    rt: &HostRuntime,
+    slots: &mut KeptReceipts<'_, Reference>,
+    place: usize,
+) -> anyhow::Result<()> {
+    match slots.release(place) {
+        Some(_slot) => println!(rt; "released")?,
+        None => return Err(anyhow!("no such receipt")),
     }
     Ok(())
 }
 
 fn one(
     rt: &HostRuntime,
-    slots: &mut Slots<'_, Reference>,
-    kept: &mut Vec<Receipt>,
+    slots: &mut KeptReceipts<'_, Reference>,
     call: Call,
 ) -> anyhow::Result<()> {
     match call {
         Call::First(mark, remaining, len, fill) => {
             let octets = vec![in rt.alloc(); fill; len]?;
-            piece(rt, slots, kept, mark, true, remaining, octets.as_slice())
+            piece(rt, slots, mark, true, remaining, octets.as_slice())
         }
         Call::Later(mark, remaining, len, fill) => {
             let octets = vec![in rt.alloc(); fill; len]?;
-            piece(rt, slots, kept, mark, false, remaining, octets.as_slice())
+            piece(rt, slots, mark, false, remaining, octets.as_slice())
         }
         Call::Tick(times) => tick(rt, slots, times),
-        Call::Copy(place, room) => copy(rt, slots, kept, place, room),
-        Call::Release(place) => release(rt, slots, kept, place),
+        Call::Copy(place, room) => copy_own(rt, slots, place, room),
+        Call::Release(place) => release(rt, slots, place),
         Call::Count => {
             let n = slots.open_slots();
             println!(rt; "{n} open")?;
@@ -157,12 +207,11 @@ fn one(
 
 pub fn run(
     rt: &HostRuntime,
-    slots: &mut Slots<'_, Reference>,
-    kept: &mut Vec<Receipt>,
+    slots: &mut KeptReceipts<'_, Reference>,
     calls: &[Call],
 ) -> anyhow::Result<()> {
     for call in calls {
-        one(rt, slots, kept, *call)?;
+        one(rt, slots, *call)?;
     }
     Ok(())
 }
@@ -180,16 +229,4 @@ pub fn records(heap: Global, n: usize) -> anyhow::Result<Vec<Entry<Reference, Lo
 pub fn octets(heap: Global, n: usize) -> anyhow::Result<Vec<u8>> {
     let made = vec![in heap; 0u8; n]?;
     Ok(made)
-}
-
-// Every receipt is released; what is declined is handed on, since nothing here can let it go.
-pub fn close(slots: &mut Slots<'_, Reference>, mut kept: Vec<Receipt>) -> Result<(), Vec<Receipt>> {
-    while let Some(receipt) = kept.pop() {
-        if let Err((_, back)) = slots.release(receipt) {
-            kept.push_reserved(back);
-            return Err(kept);
-        }
-    }
-    kept.destroy_empty();
-    Ok(())
 }

@@ -1,7 +1,8 @@
 // Calls of slots of several sizes.
 use crate::bench;
 use crate::bench::Call;
-use slots::{Entry, Load, Receipt, Reference, Settings, Slots};
+use kept_receipts::KeptReceipts;
+use slots::Settings;
 
 // Opens slots of so many records and a store of so many octets, makes the calls, and releases what is left.
 fn tried(
@@ -10,18 +11,18 @@ fn tried(
     records: usize,
     store: usize,
     calls: &[Call],
-) -> Result<(), Vec<Receipt>> {
-    let Ok(mut memory) = bench::records(rt.alloc(), records) else {
-        return Ok(());
-    };
-    let Ok(mut octets) = bench::octets(rt.alloc(), store) else {
-        return Ok(());
-    };
-    let mut kept = Vec::new(rt.alloc());
-    let mut slots = Slots::open(settings, memory.as_mut_slice(), octets.as_mut_slice());
-    let ran = bench::run(rt, &mut slots, &mut kept, calls);
-    let _ = ran;
-    bench::close(&mut slots, kept)
+) -> anyhow::Result<()> {
+    let mut memory = bench::records(rt.alloc(), records)?;
+    let mut octets = bench::octets(rt.alloc(), store)?;
+    let mut slots = KeptReceipts::open(
+        rt.alloc(),
+        settings,
+        memory.as_mut_slice(),
+        octets.as_mut_slice(),
+    );
+    let ran = bench::run(rt, &mut slots, calls);
+    slots.close();
+    ran
 }
 
 // One slot: time, the limit, copies, and a whole slot.
@@ -48,7 +49,7 @@ const ONE_SLOT: [Call; 20] = [
     Call::Count,
 ];
 
-pub fn try_one_slot(rt: &HostRuntime, settings: Settings) -> Result<(), Vec<Receipt>> {
+pub fn try_one_slot(rt: &HostRuntime, settings: Settings) -> anyhow::Result<()> {
     tried(rt, settings, 1, 3952, &ONE_SLOT)
 }
 
@@ -79,7 +80,7 @@ const TWO_SLOTS: [Call; 23] = [
     Call::Count,
 ];
 
-pub fn try_two_slots(rt: &HostRuntime, settings: Settings) -> Result<(), Vec<Receipt>> {
+pub fn try_two_slots(rt: &HostRuntime, settings: Settings) -> anyhow::Result<()> {
     tried(rt, settings, 3, 8004, &TWO_SLOTS)
 }
 
@@ -103,7 +104,7 @@ const MIXED: [Call; 16] = [
     Call::Copy(0, 3),
 ];
 
-pub fn try_mixed(rt: &HostRuntime, settings: Settings) -> Result<(), Vec<Receipt>> {
+pub fn try_mixed(rt: &HostRuntime, settings: Settings) -> anyhow::Result<()> {
     tried(rt, settings, 4, 15808, &MIXED)
 }
 
@@ -116,7 +117,7 @@ const NO_SLOTS: [Call; 5] = [
     Call::Count,
 ];
 
-pub fn try_no_slots(rt: &HostRuntime, settings: Settings) -> Result<(), Vec<Receipt>> {
+pub fn try_no_slots(rt: &HostRuntime, settings: Settings) -> anyhow::Result<()> {
     tried(rt, settings, 1, 3951, &NO_SLOTS)
 }
 
@@ -136,7 +137,7 @@ const RANGES: [Call; 12] = [
     Call::Count,
 ];
 
-pub fn try_ranges(rt: &HostRuntime, settings: Settings) -> Result<(), Vec<Receipt>> {
+pub fn try_ranges(rt: &HostRuntime, settings: Settings) -> anyhow::Result<()> {
     tried(rt, settings, 1, 3952, &RANGES)
 }
 
@@ -147,7 +148,7 @@ const SIXTEEN: [Call; 3] = [
     Call::Count,
 ];
 
-pub fn try_sixteen(rt: &HostRuntime, settings: Settings) -> Result<(), Vec<Receipt>> {
+pub fn try_sixteen(rt: &HostRuntime, settings: Settings) -> anyhow::Result<()> {
     tried(rt, settings, 18, 67184, &SIXTEEN)
 }
 
@@ -174,7 +175,7 @@ const LONGEST: [Call; 19] = [
     Call::Release(0),
 ];
 
-pub fn try_longest(rt: &HostRuntime, settings: Settings) -> Result<(), Vec<Receipt>> {
+pub fn try_longest(rt: &HostRuntime, settings: Settings) -> anyhow::Result<()> {
     tried(rt, settings, 1, 3952, &LONGEST)
 }
 
@@ -216,7 +217,7 @@ const TOO_LONG: [Call; 34] = [
     Call::Count,
 ];
 
-pub fn try_too_long(rt: &HostRuntime, settings: Settings) -> Result<(), Vec<Receipt>> {
+pub fn try_too_long(rt: &HostRuntime, settings: Settings) -> anyhow::Result<()> {
     tried(rt, settings, 1, 3952, &TOO_LONG)
 }
 
@@ -238,7 +239,7 @@ const RENEWED: [Call; 14] = [
     Call::Later(1, 0, 3, 0xB3),
 ];
 
-pub fn try_renewed(rt: &HostRuntime, settings: Settings) -> Result<(), Vec<Receipt>> {
+pub fn try_renewed(rt: &HostRuntime, settings: Settings) -> anyhow::Result<()> {
     tried(rt, settings, 1, 3952, &RENEWED)
 }
 
@@ -257,6 +258,6 @@ const SHORT_LATER: [Call; 11] = [
     Call::Later(2, 1, 4, 0x09),
 ];
 
-pub fn try_short_later(rt: &HostRuntime, settings: Settings) -> Result<(), Vec<Receipt>> {
+pub fn try_short_later(rt: &HostRuntime, settings: Settings) -> anyhow::Result<()> {
     tried(rt, settings, 1, 3952, &SHORT_LATER)
 }

@@ -7,13 +7,13 @@ mod cases;
 mod parts;
 mod strange;
 
-use slots::{Receipt, Settings};
+use slots::Settings;
 
 const CODE: u16 = 9;
 
 const T: u8 = 10;
 
-fn run(rt: &HostRuntime, settings: Settings) -> Result<(), Vec<Receipt>> {
+fn run(rt: &HostRuntime, settings: Settings) -> anyhow::Result<()> {
     cases::try_one_slot(rt, settings)?;
     cases::try_two_slots(rt, settings)?;
     cases::try_mixed(rt, settings)?;
@@ -27,9 +27,8 @@ fn run(rt: &HostRuntime, settings: Settings) -> Result<(), Vec<Receipt>> {
     strange::receipts(rt, settings)
 }
 
-fn main(rt: HostRuntime) -> Result<(), Vec<Receipt>> {
-    let tried = parts::all(&rt);
-    let _ = tried;
+fn main(rt: HostRuntime) -> anyhow::Result<()> {
+    parts::all(&rt)?;
     match Settings::new(CODE, T) {
         Ok(settings) => run(&rt, settings),
         Err(_) => Ok(()),

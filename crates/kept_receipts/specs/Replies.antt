@@ -1,0 +1,50 @@
+-- The answers, as the laws of slots speak of them.
+use Rattle.std.specs.Prelude.{ℕ, List, [], ◌∷◌, ◌++◌, Ok, Err, Result}
+use Rattle.slot_laws.specs.Machine as law
+use Rattle.slot_parts.specs.declared.refusals.PieceRefusal.{PieceRefusal}
+use Rattle.slot_parts.specs.Numbers.{piece_number}
+use Rattle.slot_area.specs.declared.receipt.Receipt.{Receipt}
+use Rattle.slot_area.specs.declared.answers.PieceAnswer.{PieceAnswer}
+use Rattle.slot_area.specs.declared.answers.PieceAnswer.TheVariants as answer
+use Rattle.kept_receipts.specs.declared.answers.KeptAnswer.{KeptAnswer}
+use Rattle.kept_receipts.specs.declared.answers.KeptAnswer.TheVariants as kept
+
+-- an answer of the station of a code
+abbrev pub told_as : ℕ → KeptAnswer → law.Answer
+told_as C (kept.Alone unit) = law.alone unit.now
+told_as C kept.NoSlots = law.refused 10
+told_as C kept.NoneFree = law.refused 6
+told_as C (kept.Opened slot) = law.opens slot
+told_as C (kept.Restarted slot) = law.restarts slot
+told_as C kept.Stray = law.stray
+told_as C (kept.Broken slot) = law.breaks slot
+told_as C (kept.Held slot) = law.holds slot
+told_as C (kept.HandedUp slot size) = law.hands (record { code = C; slot = slot; size = size })
+
+abbrev pub piece_told : ℕ → Result KeptAnswer PieceRefusal → law.Answer
+piece_told C (Ok a) = told_as C a
+piece_told C (Err e) = law.declined (piece_number e)
+
+-- the code of the receipt in an answer of slots
+abbrev pub code_in : PieceAnswer → ℕ
+code_in (answer.Alone unit) = 0
+code_in answer.NoSlots = 0
+code_in answer.NoneFree = 0
+code_in (answer.Opened slot) = 0
+code_in (answer.Restarted slot) = 0
+code_in answer.Stray = 0
+code_in (answer.Broken slot) = 0
+code_in (answer.Held slot) = 0
+code_in (answer.HandedUp receipt) = receipt.code
+
+-- the receipts with that of an answer
+abbrev pub added : List Receipt → PieceAnswer → List Receipt
+added rs (answer.Alone unit) = rs
+added rs answer.NoSlots = rs
+added rs answer.NoneFree = rs
+added rs (answer.Opened slot) = rs
+added rs (answer.Restarted slot) = rs
+added rs answer.Stray = rs
+added rs (answer.Broken slot) = rs
+added rs (answer.Held slot) = rs
+added rs (answer.HandedUp receipt) = rs ++ receipt ∷ []

@@ -1,0 +1,13 @@
+ghost use Rattle.std.specs.Prelude.{◌≡◌};
+ghost use Rattle.kept_receipts.specs.Receipts.{Kept};
+
+use slots::{Receipt, Slots};
+
+// Slots of a station's code, and the receipts that they gave and that are not spent yet: each names a whole slot, and no two the same.
+pub struct KeptReceipts<'a, K> {
+    pub(crate) code: u16,
+    pub(crate) slots: Slots<'a, K>,
+    pub(crate) receipts: Vec<Receipt>,
+    ghost ours: { slots.settings.code ≡ code },
+    ghost kept: { Kept slots receipts.items },
+}

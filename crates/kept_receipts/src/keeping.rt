@@ -1,0 +1,181 @@
+ghost use Rattle.std.specs.Prelude.{◌≡◌, ◌≢◌, is_ok, false, Some, [], ◌<◌, ◌+◌, IfOk, IfSome, IsSome, None, ◌↔◌, OnErr, length, slice_get, vec_len};
+ghost use Rattle.slot_laws.specs.Machine.{piece as piece_event, tick as tick_event, lapses as lapses_answer, open_count, named};
+ghost use Rattle.slot_laws.specs.Uses.{slots_after};
+ghost use Rattle.slot_area.specs.Answers.{receipt_of};
+ghost use Rattle.slot_area.specs.View.{copy_told, copy_out};
+ghost use Rattle.slots.specs.Opened.{use_of, seen, step_of};
+ghost use Rattle.kept_receipts.specs.Replies.{piece_told};
+
+use crate::answers;
+use crate::answers::KeptAnswer;
+use crate::held::KeptReceipts;
+use slots::{
+    CopyRefusal, Entry, Load, Mark, PieceRefusal, Receipt, ReleaseRefusal, Settings, Slots,
+};
+use std::alloc::{AllocError, Global};
+
+impl<'a, K: Mark + Drop> KeptReceipts<'a, K> {
+    // Slots over lent records and a lent store, with no receipt yet.
+    pub fn open(
+        heap: Global,
+        settings: Settings,
+        records: &'a mut [Entry<K, Load>],
+        store: &'a mut [u8],
+    ) -> KeptReceipts<'a, K>
+        ensures settings { result.slots.settings ≡ settings }
+        ensures seen { seen K.numbers result.slots ≡ slots_after (use_of settings records.old store.old) [] }
+        ensures none { result.receipts.items ≡ [] }
+    {
+        let code = settings.code();
+        let slots = Slots::open(settings, records, store);
+        KeptReceipts {
+            code,
+            slots,
+            receipts: Vec::new(heap),
+        }
+    }
+
+    // Takes in a piece; a receipt that is given for it is kept, as the newest. Want of memory for one is found before the call, which
+    // is then not made.
+    pub fn piece<'d>(
+        &mut self,
+        key: K,
+        first: bool,
+        remaining: u8,
+        contents: &'d [u8],
+    ) -> Result<Result<KeptAnswer<'d>, PieceRefusal>, AllocError>
+        ensures answer { IfOk result (λ r. piece_told self.old.code r ≡ (step_of K.numbers self.old.slots (piece_event (K.numbers key) first remaining contents.now)).1) }
+        ensures seen { IfOk result (λ _. seen K.numbers self.new.slots ≡ (step_of K.numbers self.old.slots (piece_event (K.numbers key) first remaining contents.now)).0) }
+        ensures idle { OnErr result (self.new.slots ≡ self.old.slots) }
+        ensures code { self.new.code ≡ self.old.code }
+    {
+        self.receipts.reserve(1)?;
+        match self.slots.piece(key, first, remaining, contents) {
+            Ok(answer) => Ok(Ok(answers::told(answer, &mut self.receipts))),
+            Err(why) => Ok(Err(why)),
+        }
+    }
+
+    // One tick of the slots; answers how many lapsed.
+    pub fn tick(&mut self) -> usize
+        ensures answer { lapses_answer result ≡ (step_of K.numbers self.old.slots tick_event).1 }
+        ensures seen { seen K.numbers self.new.slots ≡ (step_of K.numbers self.old.slots tick_event).0 }
+        ensures kept { self.new.receipts ≡ self.old.receipts }
+    {
+        self.slots.tick()
+    }
+
+    // How many receipts are kept.
+    pub fn count(&self) -> usize
+        ensures { result ≡ vec_len self.now.receipts }
+    {
+        self.receipts.len()
+    }
+
+    // The place of the receipt of a slot.
+    pub fn place_of(&self, slot: usize) -> Option<usize>
+        ensures { IfSome result (λ i. i < vec_len self.now.receipts) }
+    {
+        for (i, r) in self.receipts.as_slice().iter().enumerate() {
+            if r.slot() == slot {
+                return Some(i);
+            }
+        }
+        None
+    }
+
+    // The receipt at a place.
+    pub fn receipt(&self, place: usize) -> Option<&Receipt>
+        ensures some { IsSome result ↔ (place < vec_len self.now.receipts) }
+        ensures value { IfSome result (λ r. slice_get self.now.receipts.items place ≡ Some r.now) }
+    {
+        self.receipts.as_slice().get(place)
+    }
+
+    // Copies the unit of a receipt, also of one that others keep.
+    pub fn copy(&self, receipt: &Receipt, buffer: &mut [u8]) -> Result<usize, CopyRefusal>
+        ensures value { result ≡ copy_told (named self.now.slots.settings.code (seen K.numbers self.now.slots) (receipt_of receipt.now)) (length buffer.old) }
+        ensures filled { buffer.new ≡ copy_out (named self.now.slots.settings.code (seen K.numbers self.now.slots) (receipt_of receipt.now)) result buffer.old }
+    {
+        self.slots.copy(receipt, buffer)
+    }
+
+    // Spends the receipt at a place, and answers the slot that is then free; none where there is no receipt.
+    pub fn release(&mut self, place: usize) -> Option<usize>
+        ensures some { IsSome result ↔ (place < vec_len self.old.receipts) }
+        ensures less { IfSome result (λ _. vec_len self.new.receipts + 1 ≡ vec_len self.old.receipts) }
+        ensures idle { result ≡ None → self.new ≡ self.old }
+    {
+        if place >= self.receipts.len() {
+            return None;
+        }
+        let receipt = self.receipts.remove(place);
+        let slot = receipt.slot();
+        match self.slots.release(receipt) {
+            Ok(()) => Some(slot),
+            Err((_why, _back)) => unreachable!(),
+        }
+    }
+
+    // Offers the receipt at a place to other slots, as a stranger would. A declined one comes back, as the newest; none where there is
+    // no receipt. Slots of another code decline it and stay as they are.
+    pub fn offer(
+        &mut self,
+        place: usize,
+        other: &mut Slots<'_, K>,
+    ) -> Option<Result<(), ReleaseRefusal>>
+        ensures some { IsSome result ↔ (place < vec_len self.old.receipts) }
+        ensures declined { self.old.code ≢ other.old.settings.code → IfSome result (λ r. is_ok r ≡ false) × (other.new ≡ other.old) }
+        ensures settings { other.new.settings ≡ other.old.settings }
+        ensures slots { self.new.slots ≡ self.old.slots }
+    {
+        if place >= self.receipts.len() {
+            return None;
+        }
+        let receipt = self.receipts.remove(place);
+        match other.release(receipt) {
+            Ok(()) => Some(Ok(())),
+            Err((why, back)) => {
+                self.receipts.push_reserved(back);
+                Some(Err(why))
+            }
+        }
+    }
+
+    // The same with the slots of others that keep their receipts; none too where both are of one code, since then it could be spent in
+    // the place of one of theirs.
+    pub fn offer_to(
+        &mut self,
+        place: usize,
+        other: &mut KeptReceipts<'_, K>,
+    ) -> Option<Result<(), ReleaseRefusal>>
+        ensures declined { IfSome result (λ r. is_ok r ≡ false) }
+        ensures other { other.new.slots ≡ other.old.slots }
+        ensures receipts { other.new.receipts ≡ other.old.receipts }
+    {
+        if self.code == other.code {
+            return None;
+        }
+        self.offer(place, &mut other.slots)
+    }
+
+    // How many slots are open, counted from the records.
+    pub fn open_slots(&self) -> usize
+        ensures { result ≡ open_count (seen K.numbers self.now.slots) }
+    {
+        self.slots.open_slots()
+    }
+
+    // Ends the use: every receipt that is left is spent.
+    pub fn close(mut self) {
+        while self.receipts.len() > 0 {
+            self.release(0);
+        }
+        let KeptReceipts {
+            code: _,
+            slots: _,
+            receipts,
+        } = self;
+        receipts.destroy_empty();
+    }
+}

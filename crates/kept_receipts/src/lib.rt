@@ -1,0 +1,10 @@
+// Slots used alone, with the receipts that they gave and that are not spent yet. Each of these can be spent, so that a use can
+// always be ended.
+#![tactic(auto)]
+
+pub mod answers;
+pub mod held;
+pub mod keeping;
+
+pub use answers::KeptAnswer;
+pub use held::KeptReceipts;
