@@ -1,5 +1,5 @@
 -- The answers, as the laws of slots speak of them.
-use Rattle.std.specs.Prelude.{ℕ, List, [], ◌∷◌, ◌++◌, Ok, Err, Result}
+use Rattle.std.specs.Prelude.{ℕ, List, [], ◌∷◌, ◌++◌, Some, None, Option, Ok, Err, Result}
 use Rattle.slot_laws.specs.Machine as law
 use Rattle.slot_parts.specs.declared.refusals.PieceRefusal.{PieceRefusal}
 use Rattle.slot_parts.specs.Numbers.{piece_number}
@@ -48,3 +48,8 @@ added rs answer.Stray = rs
 added rs (answer.Broken slot) = rs
 added rs (answer.Held slot) = rs
 added rs (answer.HandedUp receipt) = rs ++ receipt ∷ []
+
+-- the slot that a receipt names, where there is one
+abbrev pub slot_named : Option Receipt → Option ℕ
+slot_named None = None
+slot_named (Some r) = Some r.slot

@@ -1,10 +1,10 @@
-ghost use Rattle.std.specs.Prelude.{◌≡◌, ◌≢◌, is_ok, false, Some, [], ◌<◌, ◌+◌, IfOk, IfSome, IsSome, None, ◌↔◌, OnErr, length, slice_get, vec_len};
-ghost use Rattle.slot_laws.specs.Machine.{piece as piece_event, tick as tick_event, lapses as lapses_answer, open_count, named};
+ghost use Rattle.std.specs.Prelude.{◌≡◌, ◌≢◌, is_ok, false, Some, [], ◌<◌, ◌+◌, IfOk, IfSome, IsSome, None, ◌↔◌, OnErr, ◌==◌, length, position, remove, slice_get, slice_set, vec_len};
+ghost use Rattle.slot_laws.specs.Machine.{piece as piece_event, tick as tick_event, lapses as lapses_answer, open_count, named, free};
 ghost use Rattle.slot_laws.specs.Uses.{slots_after};
 ghost use Rattle.slot_area.specs.Answers.{receipt_of};
 ghost use Rattle.slot_area.specs.View.{copy_told, copy_out};
 ghost use Rattle.slots.specs.Opened.{use_of, seen, step_of};
-ghost use Rattle.kept_receipts.specs.Replies.{piece_told};
+ghost use Rattle.kept_receipts.specs.Replies.{piece_told, slot_named};
 
 use crate::answers;
 use crate::answers::KeptAnswer;
@@ -69,19 +69,17 @@ impl<'a, K: Mark + Drop> KeptReceipts<'a, K> {
     pub fn count(&self) -> usize
         ensures { result ≡ vec_len self.now.receipts }
     {
-        self.receipts.len()
+        self.receipts.as_slice().len()
     }
 
     // The place of the receipt of a slot.
     pub fn place_of(&self, slot: usize) -> Option<usize>
-        ensures { IfSome result (λ i. i < vec_len self.now.receipts) }
+        ensures { result ≡ position (λ r. r.slot == slot) self.now.receipts.items }
     {
-        for (i, r) in self.receipts.as_slice().iter().enumerate() {
-            if r.slot() == slot {
-                return Some(i);
-            }
-        }
-        None
+        self.receipts
+            .as_slice()
+            .iter()
+            .position(|r| r.slot() == slot)
     }
 
     // The receipt at a place.
@@ -102,7 +100,9 @@ impl<'a, K: Mark + Drop> KeptReceipts<'a, K> {
 
     // Spends the receipt at a place, and answers the slot that is then free; none where there is no receipt.
     pub fn release(&mut self, place: usize) -> Option<usize>
-        ensures some { IsSome result ↔ (place < vec_len self.old.receipts) }
+        ensures value { result ≡ slot_named (slice_get self.old.receipts.items place) }
+        ensures seen { IfSome result (λ s. seen K.numbers self.new.slots ≡ slice_set (seen K.numbers self.old.slots) s free) }
+        ensures receipts { IfSome result (λ _. self.new.receipts.items ≡ remove self.old.receipts.items place) }
         ensures less { IfSome result (λ _. vec_len self.new.receipts + 1 ≡ vec_len self.old.receipts) }
         ensures idle { result ≡ None → self.new ≡ self.old }
     {

@@ -196,7 +196,9 @@ mod tests {
         assert_eq!(rt; p.options.segmentation(), Some(piece));
         let mut options = p.options;
         match options.next_part() {
-            OptionPart::Other { name, contents } => assert!(rt; name == 0x12 && contents == [3].as_slice()),
+            OptionPart::Other { name, contents } => assert!(rt;
+                name == 0x12 && contents == [3].as_slice()
+            ),
             _ => return Err(Fail::new("another name is first")),
         }
         match options.next_part() {
