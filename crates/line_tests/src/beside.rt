@@ -1,8 +1,20 @@
 // A line beside a plain list of the messages that should wait on it.
+ghost use Rattle.std.specs.Prelude.{◌≡◌, is_ok};
+
 use line::{Line, LineRefusal};
 use std::alloc::Global;
-use std::process::Abort;
 use std::test::Fail;
+
+// A test fails where this does not hold.
+pub(crate) fn check(holds: bool) -> Result<(), Fail>
+    ensures { is_ok result ≡ holds }
+{
+    if holds {
+        Ok(())
+    } else {
+        Err(Fail::new("a check of a line does not hold"))
+    }
+}
 
 // What fills a buffer before a take.
 pub const FILL: u8 = 0xEE;
@@ -60,21 +72,20 @@ fn put_number(places: usize, n: usize) -> u8 {
 
 // Puts a message on the line and into the list, if it should be accepted; tells whether it was.
 pub(crate) fn put_beside<L: Line>(
-    rt: &impl Abort,
     line: &mut L,
     room: Room,
     list: &mut Vec<Vec<u8>>,
     m: Vec<u8>,
 ) -> Result<bool, Fail> {
     let places = room.places(list);
-    assert_eq!(rt; line.places(), places);
+    check(line.places() == places)?;
     let expected = put_number(places, m.len());
     let got = line.put(&m);
-    assert_eq!(rt; number_of(&got), expected);
+    check(number_of(&got) == expected)?;
     if expected == 0 {
         list.push(m)?;
     }
-    assert_eq!(rt; line.places(), room.places(list));
+    check(line.places() == room.places(list))?;
     Ok(expected == 0)
 }
 
@@ -98,16 +109,15 @@ fn all_fill(part: &[u8]) -> bool {
 }
 
 // The buffer holds the message at its front and nothing else new.
-fn check_buffer(rt: &impl Abort, buffer: &[u8], n: usize, m: &[u8]) {
-    assert_eq!(rt; n, m.len());
-    assert!(rt; n <= buffer.len());
-    assert!(rt; &buffer[0..n] == m);
-    assert!(rt; all_fill(&buffer[n..]));
+fn check_buffer(buffer: &[u8], n: usize, m: &[u8]) -> Result<(), Fail> {
+    check(n == m.len())?;
+    check(n <= buffer.len())?;
+    check(&buffer[0..n] == m)?;
+    check(all_fill(&buffer[n..]))
 }
 
 // Takes a message from the line and from the list into a buffer of some size; tells whether there was one.
 pub(crate) fn take_beside<L: Line>(
-    rt: &impl Abort,
     heap: Global,
     line: &mut L,
     room: Room,
@@ -117,14 +127,14 @@ pub(crate) fn take_beside<L: Line>(
     let expected = take_number(list.len(), size);
     let mut buffer = vec![in heap; FILL; size]?;
     let got = line.take(&mut buffer);
-    assert_eq!(rt; number_of(&got), expected);
+    check(number_of(&got) == expected)?;
     if let Ok(n) = got {
-        assert!(rt; list.len() > 0);
+        check(list.len() > 0)?;
         let m = list.remove(0);
-        check_buffer(rt, &buffer, n, &m);
+        check_buffer(&buffer, n, &m)?;
     } else {
-        assert!(rt; all_fill(&buffer));
+        check(all_fill(&buffer))?;
     }
-    assert_eq!(rt; line.places(), room.places(list));
+    check(line.places() == room.places(list))?;
     Ok(expected == 0)
 }

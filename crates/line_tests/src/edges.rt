@@ -1,10 +1,9 @@
 // Every refusal at its boundary.
-use crate::beside::{FILL, message, number_of};
+use crate::beside::{FILL, check, message, number_of};
 use cell_line::CellLine;
 use line::{Line, LineRefusal};
 use packed_line::PackedLine;
 use std::alloc::Global;
-use std::process::Abort;
 use std::test::Fail;
 
 // Puts a message of n octets; answers the number of the refusal, or 0.
@@ -21,36 +20,36 @@ fn take_some<L: Line>(heap: Global, line: &mut L, size: usize) -> Result<(u8, us
 }
 
 // Lengths of 4, 5, 272 and 273.
-fn put_edges<L: Line>(rt: &impl Abort, heap: Global, line: &mut L) -> Result<(), Fail> {
-    assert_eq!(rt; put_some(heap, line, 4)?, 61);
-    assert_eq!(rt; put_some(heap, line, 273)?, 61);
-    assert_eq!(rt; put_some(heap, line, 5)?, 0);
-    assert_eq!(rt; put_some(heap, line, 272)?, 0);
+fn put_edges<L: Line>(heap: Global, line: &mut L) -> Result<(), Fail> {
+    check(put_some(heap, line, 4)? == 61)?;
+    check(put_some(heap, line, 273)? == 61)?;
+    check(put_some(heap, line, 5)? == 0)?;
+    check(put_some(heap, line, 272)? == 0)?;
     Ok(())
 }
 
 // With messages of 5 and 272 octets waiting, buffers of 271 and 272.
-fn take_edges<L: Line>(rt: &impl Abort, heap: Global, line: &mut L) -> Result<(), Fail> {
-    assert_eq!(rt; take_some(heap, line, 271)?, (64, 0));
-    assert_eq!(rt; take_some(heap, line, 272)?, (0, 5));
-    assert_eq!(rt; take_some(heap, line, 271)?, (64, 0));
-    assert_eq!(rt; take_some(heap, line, 272)?, (0, 272));
+fn take_edges<L: Line>(heap: Global, line: &mut L) -> Result<(), Fail> {
+    check(take_some(heap, line, 271)? == (64, 0))?;
+    check(take_some(heap, line, 272)? == (0, 5))?;
+    check(take_some(heap, line, 271)? == (64, 0))?;
+    check(take_some(heap, line, 272)? == (0, 272))?;
     Ok(())
 }
 
 // An empty line with so many places: nothing to take, and the edges of put and take.
-fn edges<L: Line>(rt: &impl Abort, heap: Global, line: &mut L, places: usize) -> Result<(), Fail> {
-    assert_eq!(rt; line.places(), places);
-    assert_eq!(rt; take_some(heap, line, 271)?, (63, 0));
-    put_edges(rt, heap, line)?;
-    take_edges(rt, heap, line)?;
-    assert_eq!(rt; take_some(heap, line, 272)?, (63, 0));
-    assert_eq!(rt; line.places(), places);
+fn edges<L: Line>(heap: Global, line: &mut L, places: usize) -> Result<(), Fail> {
+    check(line.places() == places)?;
+    check(take_some(heap, line, 271)? == (63, 0))?;
+    put_edges(heap, line)?;
+    take_edges(heap, line)?;
+    check(take_some(heap, line, 272)? == (63, 0))?;
+    check(line.places() == places)?;
     Ok(())
 }
 
 // Fills an empty line with messages of n octets and answers how many it took; a wrong length is named before a full line is.
-fn fill<L: Line>(rt: &impl Abort, heap: Global, line: &mut L, n: usize) -> Result<usize, Fail> {
+fn fill<L: Line>(heap: Global, line: &mut L, n: usize) -> Result<usize, Fail> {
     let m = message(heap, n, 3)?;
     let mut count = 0usize;
     for _ in 0..20000 {
@@ -58,10 +57,10 @@ fn fill<L: Line>(rt: &impl Abort, heap: Global, line: &mut L, n: usize) -> Resul
             count = count.saturating_add(1);
         }
     }
-    assert_eq!(rt; line.places(), 0);
-    assert_eq!(rt; put_some(heap, line, n)?, 62);
-    assert_eq!(rt; put_some(heap, line, 4)?, 61);
-    assert_eq!(rt; put_some(heap, line, 273)?, 61);
+    check(line.places() == 0)?;
+    check(put_some(heap, line, n)? == 62)?;
+    check(put_some(heap, line, 4)? == 61)?;
+    check(put_some(heap, line, 273)? == 61)?;
     Ok(count)
 }
 
@@ -79,23 +78,18 @@ fn packed(heap: Global, octets: usize) -> Result<PackedLine, Fail> {
     }
 }
 
-fn cell_edges_at(rt: &impl Abort, heap: Global, octets: usize, places: usize) -> Result<(), Fail> {
-    edges(rt, heap, &mut cells(heap, octets)?, places)
+fn cell_edges_at(heap: Global, octets: usize, places: usize) -> Result<(), Fail> {
+    edges(heap, &mut cells(heap, octets)?, places)
 }
 
-fn packed_edges_at(
-    rt: &impl Abort,
-    heap: Global,
-    octets: usize,
-    places: usize,
-) -> Result<(), Fail> {
-    edges(rt, heap, &mut packed(heap, octets)?, places)
+fn packed_edges_at(heap: Global, octets: usize, places: usize) -> Result<(), Fail> {
+    edges(heap, &mut packed(heap, octets)?, places)
 }
 
 #[test]
 fn cell_edges(rt: HostRuntime) -> Result<(), Fail> {
     for (octets, places) in [(4416, 16), (4657, 16), (4658, 17), (274000, 1000)] {
-        cell_edges_at(&rt, rt.alloc(), octets, places)?;
+        cell_edges_at(rt.alloc(), octets, places)?;
     }
     Ok(())
 }
@@ -109,7 +103,7 @@ fn packed_edges(rt: HostRuntime) -> Result<(), Fail> {
         (65536, 237),
         (100000, 237),
     ] {
-        packed_edges_at(&rt, rt.alloc(), octets, places)?;
+        packed_edges_at(rt.alloc(), octets, places)?;
     }
     Ok(())
 }
@@ -119,7 +113,7 @@ fn packed_edges(rt: HostRuntime) -> Result<(), Fail> {
 fn cell_full(rt: HostRuntime) -> Result<(), Fail> {
     for (octets, n, count) in [(4416, 5, 16), (4416, 272, 16), (5480, 100, 20)] {
         assert_eq!(rt;
-            fill(&rt, rt.alloc(), &mut cells(rt.alloc(), octets)?, n)?,
+            fill(rt.alloc(), &mut cells(rt.alloc(), octets)?, n)?,
             count
         );
     }
@@ -130,7 +124,7 @@ fn cell_full(rt: HostRuntime) -> Result<(), Fail> {
 fn packed_full(rt: HostRuntime) -> Result<(), Fail> {
     for (octets, n, count) in [(4416, 272, 16), (4416, 5, 461), (100000, 272, 237)] {
         assert_eq!(rt;
-            fill(&rt, rt.alloc(), &mut packed(rt.alloc(), octets)?, n)?,
+            fill(rt.alloc(), &mut packed(rt.alloc(), octets)?, n)?,
             count
         );
     }

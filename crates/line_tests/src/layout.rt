@@ -1,9 +1,9 @@
 // The octets of an area after a few calls, written out by hand.
+use crate::beside::check;
 use cell_line::CellLine;
 use line::Line;
 use packed_line::PackedLine;
 use std::alloc::Global;
-use std::process::Abort;
 use std::test::Fail;
 
 // What an area holds before.
@@ -14,12 +14,12 @@ const FIRST: [u8; 5] = [1, 2, 3, 4, 5];
 const SECOND: [u8; 6] = [9, 8, 7, 6, 5, 4];
 
 // Two messages in and the first one out.
-fn three_calls<L: Line>(rt: &impl Abort, heap: Global, line: &mut L) -> Result<(), Fail> {
+fn three_calls<L: Line>(heap: Global, line: &mut L) -> Result<(), Fail> {
     let mut buffer = vec![in heap; 0u8; 272]?;
     line.put(&FIRST)?;
     line.put(&SECOND)?;
     let n = line.take(&mut buffer)?;
-    assert_eq!(rt; n, 5);
+    check(n == 5)?;
     Ok(())
 }
 
@@ -42,7 +42,7 @@ fn cell_octets(rt: HostRuntime) -> Result<(), Fail> {
     let heap = rt.alloc();
     match CellLine::new(vec![in heap; BLANK; 4416]?) {
         Ok(mut line) => {
-            three_calls(&rt, heap, &mut line)?;
+            three_calls(heap, &mut line)?;
             assert_eq!(rt;
                 line.close(),
                 expected(
@@ -61,7 +61,7 @@ fn packed_octets(rt: HostRuntime) -> Result<(), Fail> {
     let heap = rt.alloc();
     match PackedLine::new(vec![in heap; BLANK; 4416]?) {
         Ok(mut line) => {
-            three_calls(&rt, heap, &mut line)?;
+            three_calls(heap, &mut line)?;
             assert_eq!(rt;
                 line.close(),
                 expected(

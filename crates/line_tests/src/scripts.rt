@@ -1,10 +1,9 @@
 // The same scripts of puts and takes for every line, past several turns of its memory.
-use crate::beside::{Room, message, put_beside, take_beside};
+use crate::beside::{Room, check, message, put_beside, take_beside};
 use cell_line::CellLine;
 use line::{Line, LineRefusal};
 use packed_line::PackedLine;
 use std::alloc::Global;
-use std::process::Abort;
 use std::test::Fail;
 
 // How a script goes: messages of some lengths, and how many of eight steps put.
@@ -27,13 +26,7 @@ fn puts_now(i: u32, x: u32) -> bool {
 }
 
 // Runs a script on a line that should be empty, beside a plain list, and then takes all that waits. Answers how many messages were accepted.
-fn drive<L: Line>(
-    rt: &impl Abort,
-    heap: Global,
-    line: &mut L,
-    room: Room,
-    script: Script,
-) -> Result<usize, Fail> {
+fn drive<L: Line>(heap: Global, line: &mut L, room: Room, script: Script) -> Result<usize, Fail> {
     let mut list = Vec::new(heap);
     let mut accepted = 0usize;
     let mut x = script.seed;
@@ -44,17 +37,17 @@ fn drive<L: Line>(
                 .least
                 .saturating_add(((x >> 8) % script.spread.max(1)) as usize);
             let m = message(heap, n, (x >> 24) as u8)?;
-            if put_beside(rt, line, room, &mut list, m)? {
+            if put_beside(line, room, &mut list, m)? {
                 accepted = accepted.saturating_add(1);
             }
         } else {
-            take_beside(rt, heap, line, room, &mut list, 290)?;
+            take_beside(heap, line, room, &mut list, 290)?;
         }
     }
     for _ in 0..accepted {
-        take_beside(rt, heap, line, room, &mut list, 272)?;
+        take_beside(heap, line, room, &mut list, 272)?;
     }
-    assert_eq!(rt; list.len(), 0);
+    check(list.len() == 0)?;
     Ok(accepted)
 }
 
@@ -79,24 +72,24 @@ const ANY: Script = Script {
     spread: 280,
 };
 
-fn cell_run(rt: &impl Abort, heap: Global, octets: usize, script: Script) -> Result<usize, Fail> {
+fn cell_run(heap: Global, octets: usize, script: Script) -> Result<usize, Fail> {
     let area = vec![in heap; 0xA5u8; octets]?;
     match CellLine::new(area) {
         Ok(mut line) => {
-            let accepted = drive(rt, heap, &mut line, Room::Cells(octets / 274), script)?;
-            assert_eq!(rt; line.close().len(), octets);
+            let accepted = drive(heap, &mut line, Room::Cells(octets / 274), script)?;
+            check(line.close().len() == octets)?;
             Ok(accepted)
         }
         Err(_) => Err(Fail::new("the area is refused")),
     }
 }
 
-fn packed_run(rt: &impl Abort, heap: Global, octets: usize, script: Script) -> Result<usize, Fail> {
+fn packed_run(heap: Global, octets: usize, script: Script) -> Result<usize, Fail> {
     let area = vec![in heap; 0xA5u8; octets]?;
     match PackedLine::new(area) {
         Ok(mut line) => {
-            let accepted = drive(rt, heap, &mut line, Room::Octets(octets.min(65536)), script)?;
-            assert_eq!(rt; line.close().len(), octets);
+            let accepted = drive(heap, &mut line, Room::Octets(octets.min(65536)), script)?;
+            check(line.close().len() == octets)?;
             Ok(accepted)
         }
         Err(_) => Err(Fail::new("the area is refused")),
@@ -105,29 +98,29 @@ fn packed_run(rt: &impl Abort, heap: Global, octets: usize, script: Script) -> R
 
 #[test]
 fn cell_least(rt: HostRuntime) -> Result<(), Fail> {
-    assert!(rt; cell_run(&rt, rt.alloc(), 4416, SHORT)? > 200);
-    assert!(rt; cell_run(&rt, rt.alloc(), 4416, LONG)? > 200);
-    assert!(rt; cell_run(&rt, rt.alloc(), 4416, ANY)? > 200);
+    assert!(rt; cell_run(rt.alloc(), 4416, SHORT)? > 200);
+    assert!(rt; cell_run(rt.alloc(), 4416, LONG)? > 200);
+    assert!(rt; cell_run(rt.alloc(), 4416, ANY)? > 200);
     Ok(())
 }
 
 #[test]
 fn cell_odd(rt: HostRuntime) -> Result<(), Fail> {
-    assert!(rt; cell_run(&rt, rt.alloc(), 5753, ANY)? > 200);
+    assert!(rt; cell_run(rt.alloc(), 5753, ANY)? > 200);
     Ok(())
 }
 
 #[test]
 fn packed_least(rt: HostRuntime) -> Result<(), Fail> {
-    assert!(rt; packed_run(&rt, rt.alloc(), 4416, SHORT)? > 200);
-    assert!(rt; packed_run(&rt, rt.alloc(), 4416, LONG)? > 200);
-    assert!(rt; packed_run(&rt, rt.alloc(), 4416, ANY)? > 200);
+    assert!(rt; packed_run(rt.alloc(), 4416, SHORT)? > 200);
+    assert!(rt; packed_run(rt.alloc(), 4416, LONG)? > 200);
+    assert!(rt; packed_run(rt.alloc(), 4416, ANY)? > 200);
     Ok(())
 }
 
 #[test]
 fn packed_more(rt: HostRuntime) -> Result<(), Fail> {
-    assert!(rt; packed_run(&rt, rt.alloc(), 9000, ANY)? > 200);
-    assert!(rt; packed_run(&rt, rt.alloc(), 70000, LONG)? > 200);
+    assert!(rt; packed_run(rt.alloc(), 9000, ANY)? > 200);
+    assert!(rt; packed_run(rt.alloc(), 70000, LONG)? > 200);
     Ok(())
 }
