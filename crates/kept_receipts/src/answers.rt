@@ -1,6 +1,6 @@
 ghost use Rattle.std.specs.Prelude.{◌≡◌, ◌+◌, ◌<◌, ◌≤◌, vec_len, vec_capacity};
 ghost use Rattle.slot_area.specs.Answers.{answered};
-ghost use Rattle.kept_receipts.specs.Replies.{told_as, added, code_in};
+ghost use Rattle.kept_receipts.specs.Replies.{told_as, added, code_in, with_receipt};
 
 use slots::{PieceAnswer, Receipt};
 
@@ -23,6 +23,7 @@ pub(crate) fn told<'d>(answer: PieceAnswer<'d>, receipts: &mut Vec<Receipt>) -> 
     requires { vec_len receipts.old + 1 ≤ vec_capacity receipts.old }
     ensures told { told_as (code_in answer.entry) result ≡ answered answer.entry }
     ensures kept { receipts.new.items ≡ added receipts.old.items answer.entry }
+    ensures newest { receipts.new.items ≡ with_receipt (code_in answer.entry) receipts.old.items result }
 {
     match answer {
         PieceAnswer::Alone { unit } => KeptAnswer::Alone { unit },

@@ -1,10 +1,13 @@
-ghost use Rattle.std.specs.Prelude.{◌≡◌, ◌≢◌, is_ok, false, Some, [], ◌<◌, ◌+◌, IfOk, IfSome, IsSome, None, ◌↔◌, OnErr, ◌==◌, length, position, remove, slice_get, slice_set, vec_len};
-ghost use Rattle.slot_laws.specs.Machine.{piece as piece_event, tick as tick_event, lapses as lapses_answer, open_count, named, free};
-ghost use Rattle.slot_laws.specs.Uses.{slots_after};
-ghost use Rattle.slot_area.specs.Answers.{receipt_of};
+ghost use Rattle.std.specs.Prelude.{◌≡◌, ◌≢◌, is_ok, false, Some, [], ◌<◌, ◌+◌, IfOk, IfSome, IsSome, None, ◌↔◌, OnErr, IfErr, map, take, drop, ◌==◌, length, position, remove, slice_get, slice_set, vec_len};
+ghost use Rattle.slot_laws.specs.Machine.{piece as piece_event, tick as tick_event, copy as copy_event, release as release_event, lapses as lapses_answer, open_count, named, free};
+ghost use Rattle.slot_laws.specs.Uses.{slots_after, OneSender, Kept, ArrivesEntire, Account, NoOpeningOutlives, DeclinedAltersNothing, StrangeReceipts, OneOpenEach};
+ghost use Rattle.timed_table.specs.declared.entry.Entry.TheVariants.{Free};
+ghost use Rattle.slot_parts.specs.Numbers.{release_number};
+ghost use Rattle.slot_area.specs.Answers.{receipt_of, copy_reply};
+ghost use Rattle.slot_area.specs.Pieces.{slots_of};
 ghost use Rattle.slot_area.specs.View.{copy_told, copy_out};
 ghost use Rattle.slots.specs.Opened.{use_of, seen, step_of};
-ghost use Rattle.kept_receipts.specs.Replies.{piece_told, slot_named};
+ghost use Rattle.kept_receipts.specs.Replies.{piece_told, receipts_with, offer_told, offered, slot_named};
 
 use crate::answers;
 use crate::answers::KeptAnswer;
@@ -23,7 +26,19 @@ impl<'a, K: Mark + Drop> KeptReceipts<'a, K> {
         store: &'a mut [u8],
     ) -> KeptReceipts<'a, K>
         ensures settings { result.slots.settings ≡ settings }
+        ensures code { result.code ≡ settings.code }
+        ensures records { result.slots.area.table.entries.now ≡ map (λ _. Free) (take (slots_of (length records.old) (length store.old)) records.old) }
+        ensures beyond { result.slots.area.table.beyond.now ≡ drop (slots_of (length records.old) (length store.old)) records.old }
+        ensures store { result.slots.area.store.octets.now ≡ store.old }
         ensures seen { seen K.numbers result.slots ≡ slots_after (use_of settings records.old store.old) [] }
+        ensures one_sender { OneSender (use_of settings records.old store.old) }
+        ensures kept { Kept (use_of settings records.old store.old) }
+        ensures arrives_entire { ArrivesEntire (use_of settings records.old store.old) }
+        ensures account { Account (use_of settings records.old store.old) }
+        ensures no_opening_outlives { NoOpeningOutlives (use_of settings records.old store.old) }
+        ensures declined_alters_nothing { DeclinedAltersNothing (use_of settings records.old store.old) }
+        ensures strange_receipts { StrangeReceipts (use_of settings records.old store.old) }
+        ensures one_open_each { OneOpenEach (use_of settings records.old store.old) }
         ensures none { result.receipts.items ≡ [] }
     {
         let code = settings.code();
@@ -46,7 +61,10 @@ impl<'a, K: Mark + Drop> KeptReceipts<'a, K> {
     ) -> Result<Result<KeptAnswer<'d>, PieceRefusal>, AllocError>
         ensures answer { IfOk result (λ r. piece_told self.old.code r ≡ (step_of K.numbers self.old.slots (piece_event (K.numbers key) first remaining contents.now)).1) }
         ensures seen { IfOk result (λ _. seen K.numbers self.new.slots ≡ (step_of K.numbers self.old.slots (piece_event (K.numbers key) first remaining contents.now)).0) }
-        ensures idle { OnErr result (self.new.slots ≡ self.old.slots) }
+        ensures receipts { IfOk result (λ r. self.new.receipts.items ≡ receipts_with self.old.code self.old.receipts.items r) }
+        ensures declined { IfOk result (λ r. OnErr r (self.new.slots ≡ self.old.slots)) }
+        ensures idle { OnErr result ((self.new.slots ≡ self.old.slots) × (self.new.receipts.items ≡ self.old.receipts.items)) }
+        ensures settings { self.new.slots.settings ≡ self.old.slots.settings }
         ensures code { self.new.code ≡ self.old.code }
     {
         self.receipts.reserve(1)?;
@@ -61,6 +79,8 @@ impl<'a, K: Mark + Drop> KeptReceipts<'a, K> {
         ensures answer { lapses_answer result ≡ (step_of K.numbers self.old.slots tick_event).1 }
         ensures seen { seen K.numbers self.new.slots ≡ (step_of K.numbers self.old.slots tick_event).0 }
         ensures kept { self.new.receipts ≡ self.old.receipts }
+        ensures settings { self.new.slots.settings ≡ self.old.slots.settings }
+        ensures code { self.new.code ≡ self.old.code }
     {
         self.slots.tick()
     }
@@ -94,6 +114,7 @@ impl<'a, K: Mark + Drop> KeptReceipts<'a, K> {
     pub fn copy(&self, receipt: &Receipt, buffer: &mut [u8]) -> Result<usize, CopyRefusal>
         ensures value { result ≡ copy_told (named self.now.slots.settings.code (seen K.numbers self.now.slots) (receipt_of receipt.now)) (length buffer.old) }
         ensures filled { buffer.new ≡ copy_out (named self.now.slots.settings.code (seen K.numbers self.now.slots) (receipt_of receipt.now)) result buffer.old }
+        ensures answer { copy_reply result buffer.new ≡ (step_of K.numbers self.now.slots (copy_event (receipt_of receipt.now) (length buffer.old))).1 }
     {
         self.slots.copy(receipt, buffer)
     }
@@ -104,6 +125,8 @@ impl<'a, K: Mark + Drop> KeptReceipts<'a, K> {
         ensures seen { IfSome result (λ s. seen K.numbers self.new.slots ≡ slice_set (seen K.numbers self.old.slots) s free) }
         ensures receipts { IfSome result (λ _. self.new.receipts.items ≡ remove self.old.receipts.items place) }
         ensures less { IfSome result (λ _. vec_len self.new.receipts + 1 ≡ vec_len self.old.receipts) }
+        ensures settings { self.new.slots.settings ≡ self.old.slots.settings }
+        ensures code { self.new.code ≡ self.old.code }
         ensures idle { result ≡ None → self.new ≡ self.old }
     {
         if place >= self.receipts.len() {
@@ -125,9 +148,14 @@ impl<'a, K: Mark + Drop> KeptReceipts<'a, K> {
         other: &mut Slots<'_, K>,
     ) -> Option<Result<(), ReleaseRefusal>>
         ensures some { IsSome result ↔ (place < vec_len self.old.receipts) }
+        ensures answer { IfSome result (λ a. IfSome (slice_get self.old.receipts.items place) (λ r. offer_told r.slot a ≡ (step_of K.numbers other.old (release_event (receipt_of r))).1)) }
+        ensures seen { IfSome result (λ _. IfSome (slice_get self.old.receipts.items place) (λ r. seen K.numbers other.new ≡ (step_of K.numbers other.old (release_event (receipt_of r))).0)) }
+        ensures receipts { self.new.receipts.items ≡ offered self.old.receipts.items place result }
         ensures declined { self.old.code ≢ other.old.settings.code → IfSome result (λ r. is_ok r ≡ false) × (other.new ≡ other.old) }
+        ensures idle { result ≡ None → other.new ≡ other.old }
         ensures settings { other.new.settings ≡ other.old.settings }
         ensures slots { self.new.slots ≡ self.old.slots }
+        ensures code { self.new.code ≡ self.old.code }
     {
         if place >= self.receipts.len() {
             return None;
@@ -149,9 +177,14 @@ impl<'a, K: Mark + Drop> KeptReceipts<'a, K> {
         place: usize,
         other: &mut KeptReceipts<'_, K>,
     ) -> Option<Result<(), ReleaseRefusal>>
-        ensures declined { IfSome result (λ r. is_ok r ≡ false) }
+        ensures some { IsSome result ↔ ((self.old.code ≢ other.old.code) × (place < vec_len self.old.receipts)) }
+        ensures declined { IfSome result (λ r. IfErr r (λ e. release_number e ≡ 51) × (is_ok r ≡ false)) }
+        ensures receipts { self.new.receipts.items ≡ offered self.old.receipts.items place result }
+        ensures slots { self.new.slots ≡ self.old.slots }
+        ensures code { self.new.code ≡ self.old.code }
         ensures other { other.new.slots ≡ other.old.slots }
-        ensures receipts { other.new.receipts ≡ other.old.receipts }
+        ensures other_code { other.new.code ≡ other.old.code }
+        ensures other_receipts { other.new.receipts ≡ other.old.receipts }
     {
         if self.code == other.code {
             return None;
