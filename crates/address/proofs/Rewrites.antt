@@ -5,7 +5,7 @@ use Rattle.std.proofs.lemmas.Bool.{and_parts, and_from, and_left, leb-true, le-l
 use Rattle.address.specs.declared.rewriting.CodeChange.{CodeChange}
 use Rattle.address.specs.declared.rewriting.CodeChange.TheVariants.{Keep, Remove, Put}
 use Rattle.address.specs.Code.{code_number}
-use Rattle.address.specs.Address.{indicator, code_size, subsystem_size, title_kind, title_place, least_title, title_length_ok, address_ok, on_subsystem, code_of, subsystem_of}
+use Rattle.address.specs.Address.{indicator, code_size, subsystem_size, title_kind, title_place, least_title, title_length_ok, address_ok, on_subsystem_of, code_of, subsystem_of}
 use Rattle.address.specs.Rewrite.{Bounded, code_part, title_part, indicator_with, code_as, subsystem_as, rewrite_with, rewrite, code_then, Rewriting}
 
 -- a title of a good length has at most 28 octets
@@ -116,7 +116,7 @@ module _ (on : Bool) (c : List ℕ) (s : Option ℕ) (a : List ℕ) (size : (len
       let l : length (j ∷ (c ++ subsystem_as s)) ≡ title_place j = let p = length-append c (subsystem_as s) in let q = new_place in omega arith in
       ap (drop (title_place j)) (sym e) ∙ drop_at (j ∷ (c ++ subsystem_as s)) t (title_place j) l
 
-  pub new_way : on_subsystem b ≡ on
+  pub new_way : on_subsystem_of b ≡ on
   new_way = ap (λ k. eqb k 1) told.3 ∙ way on
 
 -- the subsystem anew

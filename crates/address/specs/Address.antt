@@ -40,8 +40,8 @@ abbrev pub address_empty : List ℕ → Bool
 address_empty a = length a == 1 && indicator a % 128 == 0
 
 -- bit 7: routing on subsystem, else on title
-abbrev pub on_subsystem : List ℕ → Bool
-on_subsystem a = indicator a / 64 % 2 == 1
+abbrev pub on_subsystem_of : List ℕ → Bool
+on_subsystem_of a = indicator a / 64 % 2 == 1
 
 -- the code: two octets, low octet first, the top two bits ignored
 abbrev pub code_of : List ℕ → Option ℕ

@@ -5,7 +5,7 @@ use Rattle.address.specs.declared.buffers.AddressBuffer.{AddressBuffer}
 use Rattle.address.specs.declared.rewriting.CodeChange.{CodeChange}
 use Rattle.address.specs.declared.rewriting.CodeChange.TheVariants.{Keep, Remove, Put}
 use Rattle.address.specs.Code.{code_number}
-use Rattle.address.specs.Address.{indicator, code_size, title_kind, title_place, address_ok, on_subsystem, code_of, subsystem_of}
+use Rattle.address.specs.Address.{indicator, code_size, title_kind, title_place, address_ok, on_subsystem_of, code_of, subsystem_of}
 
 abbrev pub buffer_octets : AddressBuffer → List ℕ
 buffer_octets b = take b.length b.octets
@@ -61,7 +61,7 @@ code_then (Put c) a = Some (code_number c)
 -- rewriting: the new address is good, says what it was told to say, and else what it said
 pub record Rewritten (on : Bool) (change : CodeChange) (subsystem : Option ℕ) (a b : List ℕ) : Type 0 where
   pub good : address_ok b ≡ true
-  pub way : on_subsystem b ≡ on
+  pub way : on_subsystem_of b ≡ on
   pub code : code_of b ≡ code_then change a
   pub kept_code : code_part b ≡ code_as change a
   pub told : subsystem_of b ≡ subsystem

@@ -1,5 +1,5 @@
 ghost use Rattle.std.specs.Prelude.{◌≡◌};
-ghost use Rattle.address.specs.Address.{address_ok, address_empty, on_subsystem, title_place, least_title, title_length_ok, code_of, subsystem_of, has_title, title_in, title_found};
+ghost use Rattle.address.specs.Address.{address_ok, address_empty, on_subsystem_of, title_place, least_title, title_length_ok, code_of, subsystem_of, has_title, title_in, title_found};
 
 use crate::titles;
 use crate::titles::Title;
@@ -90,7 +90,7 @@ impl<'a> Address<'a> {
 
     // Whether routing is on the subsystem, and not on the title.
     pub fn on_subsystem(self) -> bool
-        ensures { result ≡ on_subsystem self.entry.octets.now }
+        ensures { result ≡ on_subsystem_of self.entry.octets.now }
     {
         match self.octets {
             [indicator, ..] => *indicator / 64 % 2 == 1,

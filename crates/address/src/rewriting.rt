@@ -1,5 +1,5 @@
 ghost use Rattle.std.specs.Prelude.{◌≡◌, ◌+◌, ◌≤◌, true, cond, ◌&&◌, ◌∷◌, ◌++◌, length, Some};
-ghost use Rattle.address.specs.Address.{address_ok, subsystem_of, on_subsystem};
+ghost use Rattle.address.specs.Address.{address_ok, subsystem_of, on_subsystem_of};
 ghost use Rattle.address.specs.Rewrite.{Bounded, buffer_octets, indicator_with, composed, rewrite_with, rewrite, rewritten, buffer_found, Rewriting};
 
 use crate::addresses;
@@ -137,21 +137,21 @@ impl<'a> Address<'a> {
 
     // The same address with this code.
     pub fn with_code(self, code: PointCode) -> Option<AddressBuffer>
-        ensures { buffer_found result ≡ rewritten (on_subsystem self.entry.octets.now) (CodeChange.Put code) (subsystem_of self.entry.octets.now) self.entry.octets.now }
+        ensures { buffer_found result ≡ rewritten (on_subsystem_of self.entry.octets.now) (CodeChange.Put code) (subsystem_of self.entry.octets.now) self.entry.octets.now }
     {
         self.rewritten(self.on_subsystem(), CodeChange::Put(code), self.subsystem())
     }
 
     // The same address without a code.
     pub fn without_code(self) -> Option<AddressBuffer>
-        ensures { buffer_found result ≡ rewritten (on_subsystem self.entry.octets.now) CodeChange.Remove (subsystem_of self.entry.octets.now) self.entry.octets.now }
+        ensures { buffer_found result ≡ rewritten (on_subsystem_of self.entry.octets.now) CodeChange.Remove (subsystem_of self.entry.octets.now) self.entry.octets.now }
     {
         self.rewritten(self.on_subsystem(), CodeChange::Remove, self.subsystem())
     }
 
     // The same address with this subsystem.
     pub fn with_subsystem(self, subsystem: u8) -> Option<AddressBuffer>
-        ensures { buffer_found result ≡ rewritten (on_subsystem self.entry.octets.now) CodeChange.Keep (Some subsystem) self.entry.octets.now }
+        ensures { buffer_found result ≡ rewritten (on_subsystem_of self.entry.octets.now) CodeChange.Keep (Some subsystem) self.entry.octets.now }
     {
         self.rewritten(self.on_subsystem(), CodeChange::Keep, Some(subsystem))
     }

@@ -1,6 +1,6 @@
 -- Calling addresses as they are written, and messages that are passed on.
 use Rattle.std.specs.Prelude.{ℕ, ◌/◌, ◌%◌, Bool, cond, not, ◌&&◌, List, [], ◌∷◌, is_some, Some, None, Option}
-use Rattle.address.specs.Address.{address_ok, on_subsystem, code_of, subsystem_of}
+use Rattle.address.specs.Address.{address_ok, on_subsystem_of, code_of, subsystem_of}
 use Rattle.address.specs.Rewrite.{rewrite_with}
 use Rattle.message.specs.declared.messages.Form.{Form}
 use Rattle.message.specs.Read.{Parsed}
@@ -8,11 +8,11 @@ use Rattle.outgoing.specs.Puts.{message_of, label_to}
 
 -- an address on subsystem without a code
 abbrev pub lacks_code : List ℕ → Bool
-lacks_code a = address_ok a && (on_subsystem a && not (is_some (code_of a)))
+lacks_code a = address_ok a && (on_subsystem_of a && not (is_some (code_of a)))
 
 -- the same address with a code
 abbrev pub with_code : ℕ → List ℕ → List ℕ
-with_code n a = rewrite_with (on_subsystem a) (n % 256 ∷ n / 256 ∷ []) (subsystem_of a) a
+with_code n a = rewrite_with (on_subsystem_of a) (n % 256 ∷ n / 256 ∷ []) (subsystem_of a) a
 
 -- a code is put into an address on subsystem that has none
 unfoldable pub completed : ℕ → List ℕ → List ℕ

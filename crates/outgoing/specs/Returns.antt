@@ -1,6 +1,6 @@
 -- A message that cannot be brought to where its called address says: returned, told here, or discarded.
 use Rattle.std.specs.Prelude.{ℕ, ◌%◌, Bool, cond, not, ◌&&◌, List, [], Some, Ok, Err, Option, Result}
-use Rattle.address.specs.Address.{address_empty, on_subsystem, code_of}
+use Rattle.address.specs.Address.{address_empty, on_subsystem_of, code_of}
 use Rattle.message.specs.declared.messages.Form.{Form}
 use Rattle.message.specs.declared.messages.Form.TheVariants.{Udt, Udts, Xudt, Xudts}
 use Rattle.message.specs.Forms.{asks_return}
@@ -31,7 +31,7 @@ return_code p = cond (lacks_code p.calling) (Some (p.label.opc % 16384)) (code_o
 
 -- a calling address gets the own code where the called one goes out on title
 abbrev pub calling_for : ℕ → List ℕ → List ℕ → List ℕ
-calling_for own called calling = cond (on_subsystem called) calling (completed own calling)
+calling_for own called calling = cond (on_subsystem_of called) calling (completed own calling)
 
 -- addresses changed over, same data, options and link selection
 abbrev pub return_message : ℕ → ℕ → List ℕ → Cause → Parsed → Parsed

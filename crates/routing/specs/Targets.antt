@@ -3,7 +3,7 @@ use Rattle.std.specs.Prelude.{ℕ, Bool, true, false, cond, not, ◌&&◌, List,
 use Rattle.address.specs.declared.codes.PointCode.{PointCode}
 use Rattle.address.specs.declared.rewriting.CodeChange.TheVariants.{Keep}
 use Rattle.address.specs.Code.{code_number}
-use Rattle.address.specs.Address.{has_title, on_subsystem, subsystem_of}
+use Rattle.address.specs.Address.{has_title, on_subsystem_of, subsystem_of}
 use Rattle.address.specs.Rewrite.{buffer_octets, rewritten}
 use Rattle.translation.specs.declared.causes.Cause.{Cause}
 use Rattle.translation.specs.declared.causes.Cause.TheVariants.{NoTranslation}
@@ -75,7 +75,7 @@ untitled_target codes subsystems own (Some c) a = cond (nonzero (subsystem_of a)
 -- with a title: without a code it is translated; with one, bit 7 decides if the subsystem is nonzero, else the title does
 abbrev pub titled_target : Tables → ℕ → Option ℕ → List ℕ → TargetView
 titled_target t own None a = translated_target own (translated_by t own a)
-titled_target t own (Some c) a = cond (on_subsystem a && nonzero (subsystem_of a)) (at_subsystem t.codes t.subsystems own c a) (at_title t own c a)
+titled_target t own (Some c) a = cond (on_subsystem_of a && nonzero (subsystem_of a)) (at_subsystem t.codes t.subsystems own c a) (at_title t own c a)
 
 -- where an address leads, at the station of the code own; code is the address's own one, or what stands for it
 unfoldable pub target_for : Tables → ℕ → Option ℕ → List ℕ → TargetView

@@ -1,7 +1,7 @@
 -- Where a message that was received goes.
 use Rattle.std.specs.Prelude.{ℕ, ◌-◌, cond, List, Some, None, Ok, Err, Option, Result, ◌==◌, nat_lt}
 use Rattle.address.specs.Code.{code_number}
-use Rattle.address.specs.Address.{on_subsystem, subsystem_of}
+use Rattle.address.specs.Address.{on_subsystem_of, subsystem_of}
 use Rattle.address.specs.Rewrite.{buffer_octets}
 use Rattle.message.specs.declared.messages.Form.{Form}
 use Rattle.message.specs.declared.messages.Form.TheVariants.{Udt, Udts, Xudt, Xudts}
@@ -52,4 +52,4 @@ on_title_way t own a None = nowhere HopCounterViolation
 
 -- where a message of this form with this called address goes, at the station of the code own
 unfoldable pub way_for : Tables → ℕ → Form → List ℕ → WayView
-way_for t own f a = cond (on_subsystem a) (on_subsystem_way t own a) (on_title_way t own a (less_hop f))
+way_for t own f a = cond (on_subsystem_of a) (on_subsystem_way t own a) (on_title_way t own a (less_hop f))

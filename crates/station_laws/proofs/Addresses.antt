@@ -4,7 +4,7 @@ use Rattle.std.proofs.lemmas.Bool.{and_parts, leb-true}
 use Rattle.address.specs.declared.codes.PointCode.{PointCode}
 use Rattle.address.specs.declared.rewriting.CodeChange.{CodeChange}
 use Rattle.address.specs.declared.rewriting.CodeChange.TheVariants.{Keep, Remove, Put}
-use Rattle.address.specs.Address.{address_ok, has_title, on_subsystem, subsystem_of}
+use Rattle.address.specs.Address.{address_ok, has_title, on_subsystem_of, subsystem_of}
 use Rattle.address.specs.Rewrite.{rewrite, rewritten}
 use Rattle.address.proofs.Rewrites.{rewriting}
 use Rattle.translation.specs.declared.causes.Cause.{Cause}
@@ -101,7 +101,7 @@ good_untitled codes subsystems own (Some c) a =
 good_titled : (t : Tables) (own : ℕ) (code : Option ℕ) (a : List ℕ) → Good (titled_target t own code a)
 good_titled t own None a = good_translated own (translated_by t own a) (good_translation t own a)
 good_titled t own (Some c) a =
-    good_cond (on_subsystem a && nonzero (subsystem_of a)) (at_subsystem t.codes t.subsystems own c a) (at_title t own c a)
+    good_cond (on_subsystem_of a && nonzero (subsystem_of a)) (at_subsystem t.codes t.subsystems own c a) (at_title t own c a)
     (good_at_subsystem t.codes t.subsystems own c a) (good_at_title t own c a)
 
 pub good_target : (t : Tables) (own : ℕ) (code : Option ℕ) (a : List ℕ) → Good (target_for t own code a)
@@ -115,7 +115,7 @@ with_code_ok : (n : ℕ) (a : List ℕ) → n < 16384 → address_ok a ≡ true 
 unfolding rewrite
 with_code_ok n a l ok =
     let c : PointCode = record { value = n; fits = l } in
-    (rewriting (on_subsystem a) (Put c) (subsystem_of a) a ok (omega arith)).good
+    (rewriting (on_subsystem_of a) (Put c) (subsystem_of a) a ok (omega arith)).good
 
 ok_cond : (b : Bool) (x y : List ℕ) → address_ok x ≡ true → address_ok y ≡ true → address_ok (cond b x y) ≡ true
 ok_cond true x y p q = p
@@ -126,4 +126,4 @@ unfolding completed
 good_completed n a l ok = ok_cond (lacks_code a) (with_code n a) a (with_code_ok n a l ok) ok
 
 pub good_calling : (own : ℕ) (called calling : List ℕ) → own < 16384 → address_ok calling ≡ true → address_ok (calling_for own called calling) ≡ true
-good_calling own called calling l ok = ok_cond (on_subsystem called) calling (completed own calling) ok (good_completed own calling l ok)
+good_calling own called calling l ok = ok_cond (on_subsystem_of called) calling (completed own calling) ok (good_completed own calling l ok)
