@@ -3,7 +3,8 @@ ghost use Rattle.kept_receipts.specs.Receipts.{Kept};
 
 use slots::{Receipt, Slots};
 
-// Slots of a station's code, and the receipts that they gave and that are not spent yet: each names a whole slot, and no two the same.
+// Slots, and receipts of their code that are not spent yet, oldest first: each names a whole slot, and no two the same, so that each
+// can be spent.
 pub struct KeptReceipts<'a, K> {
     pub(crate) code: u16,
     pub(crate) slots: Slots<'a, K>,

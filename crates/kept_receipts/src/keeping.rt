@@ -1,10 +1,12 @@
-ghost use Rattle.std.specs.Prelude.{◌≡◌, ◌≢◌, is_ok, false, Some, [], ◌<◌, ◌+◌, IfOk, IfSome, IsSome, None, ◌↔◌, OnErr, IfErr, map, take, drop, ◌==◌, length, position, remove, slice_get, slice_set, vec_len};
+ghost use Rattle.std.specs.Prelude.{◌≡◌, ◌≢◌, is_ok, false, Some, [], ◌<◌, ◌+◌, IfOk, IfSome, IsSome, None, ◌↔◌, OnErr, IfErr, count_by, map, take, drop, ◌==◌, length, position, remove, slice_get, slice_set, vec_len};
 ghost use Rattle.slot_laws.specs.Machine.{piece as piece_event, tick as tick_event, copy as copy_event, release as release_event, lapses as lapses_answer, open_count, named, free};
 ghost use Rattle.slot_laws.specs.Uses.{slots_after, OneSender, Kept, ArrivesEntire, Account, NoOpeningOutlives, DeclinedAltersNothing, StrangeReceipts, OneOpenEach};
 ghost use Rattle.timed_table.specs.declared.entry.Entry.TheVariants.{Free};
 ghost use Rattle.slot_parts.specs.Numbers.{release_number};
 ghost use Rattle.slot_area.specs.Answers.{receipt_of, copy_reply};
-ghost use Rattle.slot_area.specs.Pieces.{slots_of};
+ghost use Rattle.timed_table.specs.Table.{is_timed, ticked, lapses};
+ghost use Rattle.slot_area.specs.Became.{Became};
+ghost use Rattle.slot_area.specs.Pieces.{slots_of, piece_entries, piece_octets, release_entries};
 ghost use Rattle.slot_area.specs.View.{copy_told, copy_out};
 ghost use Rattle.slots.specs.Opened.{use_of, seen, step_of};
 ghost use Rattle.kept_receipts.specs.Replies.{piece_told, receipts_with, offer_told, offered, slot_named};
@@ -61,6 +63,9 @@ impl<'a, K: Mark + Drop> KeptReceipts<'a, K> {
     ) -> Result<Result<KeptAnswer<'d>, PieceRefusal>, AllocError>
         ensures answer { IfOk result (λ r. piece_told self.old.code r ≡ (step_of K.numbers self.old.slots (piece_event (K.numbers key) first remaining contents.now)).1) }
         ensures seen { IfOk result (λ _. seen K.numbers self.new.slots ≡ (step_of K.numbers self.old.slots (piece_event (K.numbers key) first remaining contents.now)).0) }
+        ensures after { IfOk result (λ _. Became self.old.slots.area self.new.slots.area
+            (piece_entries K.numbers key first remaining contents.now self.old.slots.area.table.entries.now self.old.slots.settings.ticks)
+            (piece_octets K.numbers key first remaining contents.now self.old.slots.area.table.entries.now self.old.slots.area.store.octets.now)) }
         ensures receipts { IfOk result (λ r. self.new.receipts.items ≡ receipts_with self.old.code self.old.receipts.items r) }
         ensures declined { IfOk result (λ r. OnErr r (self.new.slots ≡ self.old.slots)) }
         ensures idle { OnErr result ((self.new.slots ≡ self.old.slots) × (self.new.receipts.items ≡ self.old.receipts.items)) }
@@ -78,6 +83,8 @@ impl<'a, K: Mark + Drop> KeptReceipts<'a, K> {
     pub fn tick(&mut self) -> usize
         ensures answer { lapses_answer result ≡ (step_of K.numbers self.old.slots tick_event).1 }
         ensures seen { seen K.numbers self.new.slots ≡ (step_of K.numbers self.old.slots tick_event).0 }
+        ensures value { result ≡ count_by lapses self.old.slots.area.table.entries.now }
+        ensures after { Became self.old.slots.area self.new.slots.area (map ticked self.old.slots.area.table.entries.now) self.old.slots.area.store.octets.now }
         ensures kept { self.new.receipts ≡ self.old.receipts }
         ensures settings { self.new.slots.settings ≡ self.old.slots.settings }
         ensures code { self.new.code ≡ self.old.code }
@@ -123,6 +130,7 @@ impl<'a, K: Mark + Drop> KeptReceipts<'a, K> {
     pub fn release(&mut self, place: usize) -> Option<usize>
         ensures value { result ≡ slot_named (slice_get self.old.receipts.items place) }
         ensures seen { IfSome result (λ s. seen K.numbers self.new.slots ≡ slice_set (seen K.numbers self.old.slots) s free) }
+        ensures after { IfSome result (λ _. IfSome (slice_get self.old.receipts.items place) (λ r. Became self.old.slots.area self.new.slots.area (release_entries self.old.slots.settings.code (receipt_of r) self.old.slots.area.table.entries.now) self.old.slots.area.store.octets.now)) }
         ensures receipts { IfSome result (λ _. self.new.receipts.items ≡ remove self.old.receipts.items place) }
         ensures less { IfSome result (λ _. vec_len self.new.receipts + 1 ≡ vec_len self.old.receipts) }
         ensures settings { self.new.slots.settings ≡ self.old.slots.settings }
@@ -141,7 +149,8 @@ impl<'a, K: Mark + Drop> KeptReceipts<'a, K> {
     }
 
     // Offers the receipt at a place to other slots, as a stranger would. A declined one comes back, as the newest; none where there is
-    // no receipt. Slots of another code decline it and stay as they are.
+    // no receipt. Slots of another code decline it and stay as they are. Slots of the same code can take it: its unit then stays here,
+    // in a slot that nothing frees any more.
     pub fn offer(
         &mut self,
         place: usize,
@@ -152,6 +161,8 @@ impl<'a, K: Mark + Drop> KeptReceipts<'a, K> {
         ensures seen { IfSome result (λ _. IfSome (slice_get self.old.receipts.items place) (λ r. seen K.numbers other.new ≡ (step_of K.numbers other.old (release_event (receipt_of r))).0)) }
         ensures receipts { self.new.receipts.items ≡ offered self.old.receipts.items place result }
         ensures declined { self.old.code ≢ other.old.settings.code → IfSome result (λ r. is_ok r ≡ false) × (other.new ≡ other.old) }
+        ensures after { IfSome result (λ _. IfSome (slice_get self.old.receipts.items place) (λ r. Became other.old.area other.new.area (release_entries other.old.settings.code (receipt_of r) other.old.area.table.entries.now) other.old.area.store.octets.now)) }
+        ensures untaken { IfSome result (λ r. OnErr r (other.new ≡ other.old)) }
         ensures idle { result ≡ None → other.new ≡ other.old }
         ensures settings { other.new.settings ≡ other.old.settings }
         ensures slots { self.new.slots ≡ self.old.slots }
@@ -194,12 +205,13 @@ impl<'a, K: Mark + Drop> KeptReceipts<'a, K> {
 
     // How many slots are open, counted from the records.
     pub fn open_slots(&self) -> usize
-        ensures { result ≡ open_count (seen K.numbers self.now.slots) }
+        ensures value { result ≡ count_by is_timed self.now.slots.area.table.entries.now }
+        ensures seen { result ≡ open_count (seen K.numbers self.now.slots) }
     {
         self.slots.open_slots()
     }
 
-    // Ends the use: every receipt that is left is spent.
+    // Ends the use. A receipt can only be spent, so every one that is left is spent here.
     pub fn close(mut self) {
         while self.receipts.len() > 0 {
             self.release(0);

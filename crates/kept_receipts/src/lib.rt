@@ -1,5 +1,4 @@
-// Slots used alone, with the receipts that they gave and that are not spent yet. Each of these can be spent, so that a use can
-// always be ended.
+// Slots used alone, with receipts of theirs that are not spent yet. Each of these can be spent, so that a use can always be ended.
 #![tactic(auto)]
 
 pub mod answers;
