@@ -211,10 +211,14 @@ impl<'a, K: Mark + Drop> KeptReceipts<'a, K> {
         self.slots.open_slots()
     }
 
-    // Ends the use. A receipt can only be spent, so every one that is left is spent here.
-    pub fn close(mut self) {
+    // Ends the use: spends every receipt that is left, and answers how many these were.
+    pub fn close(mut self) -> usize
+        ensures { result ≡ vec_len self.entry.receipts }
+    {
+        let mut spent = 0;
         while self.receipts.len() > 0 {
             self.release(0);
+            spent += 1;
         }
         let KeptReceipts {
             code: _,
@@ -222,5 +226,6 @@ impl<'a, K: Mark + Drop> KeptReceipts<'a, K> {
             receipts,
         } = self;
         receipts.destroy_empty();
+        spent
     }
 }
