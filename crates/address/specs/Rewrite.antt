@@ -1,18 +1,19 @@
 -- An address written anew, with another way of routing, code or subsystem. Bit 8 of the
 -- indicator and the title stay as they are.
 use Rattle.std.specs.Prelude.{◌≡◌, ℕ, ◌+◌, ◌*◌, ◌/◌, ◌%◌, ◌≤◌, Bool, true, cond, ◌&&◌, List, [], ◌∷◌, ◌++◌, length, take, drop, is_some, Some, None, Option, ◌==◌, nat_le}
-use Rattle.address.specs.declared.buffers.AddressBuffer.{AddressBuffer}
+use Rattle.octets.specs.declared.short.ShortOctets.{ShortOctets}
+use Rattle.octets.specs.Short.{short_octets, short_found}
 use Rattle.address.specs.declared.rewriting.CodeChange.{CodeChange}
 use Rattle.address.specs.declared.rewriting.CodeChange.TheVariants.{Keep, Remove, Put}
 use Rattle.address.specs.Code.{code_number}
 use Rattle.address.specs.Address.{indicator, code_size, title_kind, title_place, address_ok, on_subsystem_of, code_of, subsystem_of}
 
-abbrev pub buffer_octets : AddressBuffer → List ℕ
-buffer_octets b = take b.length b.octets
+-- the octets of an address that has memory of its own
+abbrev pub buffer_octets : ShortOctets 32 → List ℕ
+buffer_octets b = short_octets b
 
-abbrev pub buffer_found : Option AddressBuffer → Option (List ℕ)
-buffer_found None = None
-buffer_found (Some b) = Some (buffer_octets b)
+abbrev pub buffer_found : Option (ShortOctets 32) → Option (List ℕ)
+buffer_found b = short_found b
 
 -- the octets of the code, bits without a use included; none if there is no code
 abbrev pub code_part : List ℕ → List ℕ

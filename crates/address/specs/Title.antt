@@ -2,7 +2,8 @@
 use Rattle.std.specs.Prelude.{◌≡◌, ℕ, ◌-◌, ◌*◌, ◌/◌, ◌%◌, Bool, true, false, cond, ◌&&◌, ◌||◌, List, [], ◌∷◌, length, take, drop, Some, None, Option, ◌==◌, nat_le, slice_index}
 use Rattle.address.specs.declared.titles.Title.{Title}
 use Rattle.address.specs.declared.titles.Title.TheVariants as title
-use Rattle.address.specs.declared.digits.Digits.{Digits}
+use Rattle.octets.specs.declared.short.ShortOctets.{ShortOctets}
+use Rattle.octets.specs.Short.{short_octets, short_found}
 
 -- a title by what it holds, its octets as a list
 pub data GlobalTitle : Type 0 where
@@ -41,12 +42,11 @@ title_digits (kind4 t p e n d) = cond (nat_le (length d) 28 && (e == 1 || e == 2
 title_digits (other k o) = None
 
 -- digits as stored
-abbrev pub digits_held : Digits → List ℕ
-digits_held d = take d.count d.values
+abbrev pub digits_held : ShortOctets 56 → List ℕ
+digits_held d = short_octets d
 
-abbrev pub digits_seen : Option Digits → Option (List ℕ)
-digits_seen None = None
-digits_seen (Some d) = Some (digits_held d)
+abbrev pub digits_seen : Option (ShortOctets 56) → Option (List ℕ)
+digits_seen d = short_found d
 
 -- 21 43: odd 1 2 3, even 1 2 3 4
 abbrev pub DigitFigure : Type 0

@@ -4,7 +4,7 @@ ghost use Rattle.address.specs.Address.{address_ok, address_empty, on_subsystem_
 use crate::titles;
 use crate::titles::Title;
 
-const LEAST: usize = 2;
+pub(crate) const LEAST: usize = 2;
 
 const MOST: usize = 32;
 
@@ -42,7 +42,7 @@ fn title_length_ok(kind: u8, length: usize) -> bool
 {
     match kind {
         0 => length == 0,
-        _ => least_title(kind) <= length && length <= MOST_TITLE,
+        _ => (least_title(kind)..=MOST_TITLE).contains(&length),
     }
 }
 
@@ -60,6 +60,7 @@ impl<'a> Address<'a> {
     }
 
     // Whether the octets are an address: what the indicator tells, and nothing else.
+    #[tactic(auto, unfolding(crate::specs::Address::address_ok))]
     pub fn is_good(self) -> bool
         ensures { result ≡ address_ok self.entry.octets.now }
     {
@@ -67,35 +68,22 @@ impl<'a> Address<'a> {
             return false;
         };
         let n = self.octets.len();
-        if n < LEAST || n > MOST {
-            return false;
-        }
-        let fixed = title_place(*indicator);
-        if n < fixed {
-            return false;
-        }
-        let kind = *indicator / 4 % 16;
-        title_length_ok(kind, n - fixed)
+        let place = title_place(*indicator);
+        (LEAST..=MOST).contains(&n) && place <= n && title_length_ok(*indicator / 4 % 16, n - place)
     }
 
     // The empty address: a lone octet with bits 1 to 7 zero.
     pub fn is_empty(self) -> bool
         ensures { result ≡ address_empty self.entry.octets.now }
     {
-        match self.octets {
-            [indicator] => *indicator % 128 == 0,
-            _ => false,
-        }
+        matches!(self.octets, [indicator] if *indicator % 128 == 0)
     }
 
     // Whether routing is on the subsystem, and not on the title.
     pub fn on_subsystem(self) -> bool
         ensures { result ≡ on_subsystem_of self.entry.octets.now }
     {
-        match self.octets {
-            [indicator, ..] => *indicator / 64 % 2 == 1,
-            _ => false,
-        }
+        matches!(self.octets, [indicator, ..] if *indicator / 64 % 2 == 1)
     }
 
     // The point code, where the address has one.
@@ -104,7 +92,7 @@ impl<'a> Address<'a> {
     {
         match self.octets {
             [indicator, low, high, ..] if *indicator % 2 == 1 => Some(
-                (*low as u16 + 256 * *high as u16) % 16_384,
+                u16::from_le_bytes([*low, *high]) % 16_384,
             ),
             _ => None,
         }
@@ -125,24 +113,20 @@ impl<'a> Address<'a> {
     pub fn has_title(self) -> bool
         ensures { result ≡ has_title self.entry.octets.now }
     {
-        match self.octets {
-            [indicator, ..] => *indicator / 4 % 16 != 0,
-            _ => false,
-        }
+        matches!(self.octets, [indicator, ..] if *indicator / 4 % 16 != 0)
     }
 
     // The global title, where the address has one.
+    #[tactic(auto, unfolding(crate::specs::Address::title_in))]
     pub fn title(self) -> Option<Title<'a>>
         ensures { title_found result ≡ title_in self.entry.octets.now }
     {
         let [indicator, ..] = self.octets else {
             return None;
         };
-        let kind = *indicator / 4 % 16;
-        let place = title_place(*indicator);
-        if kind == 0 || self.octets.len() < place {
-            return None;
+        match *indicator / 4 % 16 {
+            0 => None,
+            kind => titles::title_of(kind, self.octets.get(title_place(*indicator)..)?),
         }
-        titles::title_of(kind, &self.octets[place..])
     }
 }

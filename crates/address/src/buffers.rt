@@ -1,9 +1,4 @@
-ghost use Rattle.std.specs.Prelude.{◌≤◌};
+use octets::ShortOctets;
 
-// An address of its own memory: the first `length` of `octets`.
-#[derive(Clone, Copy)]
-pub struct AddressBuffer {
-    pub(crate) octets: [u8; 32],
-    pub(crate) length: usize,
-    ghost fits: { length ≤ 32 },
-}
+// An address in memory of its own.
+pub type AddressBuffer = ShortOctets<32>;

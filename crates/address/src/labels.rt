@@ -11,35 +11,35 @@ pub struct Label {
     pub sls: u8,
 }
 
-impl Label {
-    pub fn of_octets(octets: [u8; 4]) -> Label
+impl From<[u8; 4]> for Label {
+    ghost from_gives = { λ octets l. l ≡ label_of octets };
+
+    fn from(octets: [u8; 4]) -> Label
         ensures value { result ≡ label_of octets }
         ensures figure { LabelFigure }
     {
-        let [a, b, c, d] = octets;
-        let word = a as u32 + 256 * b as u32 + 65_536 * c as u32 + 16_777_216 * d as u32;
+        let word = u32::from_le_bytes(octets);
         Label {
             dpc: (word % 16_384) as u16,
             opc: (word / 16_384 % 16_384) as u16,
             sls: (word / 268_435_456) as u8,
         }
     }
+}
 
-    // The four octets of the label: of each code the low 14 bits, of the link selection the
-    // low 4.
-    pub fn to_octets(self) -> [u8; 4]
-        ensures value { result ≡ label_octets self }
+// The four octets of the label: of each code the low 14 bits, of the link selection the low 4.
+impl From<Label> for [u8; 4] {
+    ghost from_gives = { λ l octets. octets ≡ label_octets l };
+
+    #[tactic(auto, using(crate::proofs::LabelLaws::label_back, crate::proofs::LabelLaws::label_forth))]
+    fn from(label: Label) -> [u8; 4]
+        ensures value { result ≡ label_octets label }
         ensures reads_back { LabelReadsBack }
         ensures writes_back { LabelWritesBack }
     {
-        let word = self.dpc as u32 % 16_384
-            + 16_384 * (self.opc as u32 % 16_384)
-            + 268_435_456 * (self.sls as u32 % 16);
-        [
-            (word % 256) as u8,
-            (word / 256 % 256) as u8,
-            (word / 65_536 % 256) as u8,
-            (word / 16_777_216) as u8,
-        ]
+        let word = label.dpc as u32 % 16_384
+            + 16_384 * (label.opc as u32 % 16_384)
+            + 268_435_456 * (label.sls as u32 % 16);
+        word.to_le_bytes()
     }
 }

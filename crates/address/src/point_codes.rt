@@ -7,6 +7,7 @@ const CODES: u16 = 16_384;
 
 impl PointCode {
     // The point code of a number; none above 16,383.
+    // Stays: a test with one way to fail, as NonZeroU16::new; a TryFrom would add an error that says no more.
     pub fn new(number: u16) -> Option<PointCode>
         ensures { code_made number result }
     {

@@ -3,11 +3,9 @@ ghost use Rattle.address.specs.Address.{address_ok, subsystem_of, on_subsystem_o
 ghost use Rattle.address.specs.Rewrite.{Bounded, buffer_octets, indicator_with, composed, rewrite_with, rewrite, rewritten, buffer_found, Rewriting};
 
 use crate::addresses;
-use crate::addresses::Address;
+use crate::addresses::{Address, LEAST};
 use crate::buffers::AddressBuffer;
 use crate::codes::PointCode;
-
-const LEAST: usize = 2;
 
 // What becomes of the code of an address that is written anew.
 #[derive(Clone, Copy)]
@@ -17,22 +15,12 @@ pub enum CodeChange {
     Put(PointCode),
 }
 
-impl AddressBuffer {
-    pub fn octets(&self) -> &[u8]
-        ensures { result.now ≡ buffer_octets self.now }
-    {
-        &self.octets[0..self.length]
-    }
-}
-
 // The indicator anew: bit 8 and the title's kind stay.
 fn new_indicator(indicator: u8, on_subsystem: bool, code: bool, subsystem: bool) -> u8
     ensures { result ≡ indicator_with indicator on_subsystem code subsystem }
 {
-    let way = if on_subsystem { 64 } else { 0 };
-    let told = if subsystem { 2 } else { 0 };
-    let coded = if code { 1 } else { 0 };
-    indicator / 128 * 128 + way + indicator / 4 % 16 * 4 + told + coded
+    let told = 64 * on_subsystem as u8 + 2 * subsystem as u8 + code as u8;
+    indicator / 128 * 128 + indicator / 4 % 16 * 4 + told
 }
 
 // An address of its parts.
@@ -47,10 +35,7 @@ fn compose(indicator: u8, code: &[u8], subsystem: &[u8], title: &[u8]) -> Addres
     octets::put(&mut octets, at, subsystem);
     let end = at + subsystem.len();
     octets::put(&mut octets, end, title);
-    AddressBuffer {
-        octets,
-        length: end + title.len(),
-    }
+    AddressBuffer::of_front(octets, end + title.len())
 }
 
 // The address with these octets for its code.
@@ -71,13 +56,11 @@ fn with_code_octets(
         code.len() == 2,
         subsystem.is_some(),
     );
-    match subsystem {
-        Some(s) => compose(indicator, code, &[s], title),
-        None => compose(indicator, code, &[], title),
-    }
+    compose(indicator, code, subsystem.as_slice(), title)
 }
 
 // The address with another code, or none.
+#[tactic(auto, unfolding(crate::specs::Rewrite::rewrite))]
 fn with_change(
     octets: &[u8],
     on_subsystem: bool,
@@ -93,15 +76,12 @@ fn with_change(
             with_code_octets(octets, on_subsystem, &octets[1..end], subsystem)
         }
         CodeChange::Remove => with_code_octets(octets, on_subsystem, &[], subsystem),
-        CodeChange::Put(c) => {
-            let number = c.number();
-            with_code_octets(
-                octets,
-                on_subsystem,
-                &[(number % 256) as u8, (number / 256) as u8],
-                subsystem,
-            )
-        }
+        CodeChange::Put(c) => with_code_octets(
+            octets,
+            on_subsystem,
+            &c.number().to_le_bytes(),
+            subsystem,
+        ),
     }
 }
 
@@ -109,6 +89,7 @@ impl<'a> Address<'a> {
     // The address written anew: routed on subsystem or on title, with its code kept, removed or
     // put in, with this subsystem or none, and the same title. None where the octets are no
     // address, or nothing would be left of it.
+    #[tactic(auto, using(crate::proofs::Rewrites::good_bounded, crate::proofs::Rewrites::rewriting))]
     pub fn rewritten(
         self,
         on_subsystem: bool,
@@ -122,10 +103,7 @@ impl<'a> Address<'a> {
             return None;
         }
         let anew = with_change(self.octets, on_subsystem, code, subsystem);
-        if anew.octets().len() < LEAST {
-            return None;
-        }
-        Some(anew)
+        (anew.octets().len() >= LEAST).then_some(anew)
     }
 
     // The same address routed on subsystem or on title.

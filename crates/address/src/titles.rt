@@ -31,38 +31,19 @@ pub enum Title<'a> {
     },
 }
 
-impl Digits {
-    pub fn as_slice(&self) -> &[u8]
-        ensures { result.now ≡ digits_held self.now }
-    {
-        &self.values[0..self.count]
-    }
-}
-
-// How many digits so many octets hold.
-fn digit_count(octets: usize, odd: bool) -> usize
-    requires { octets ≤ 28 }
-    ensures { result ≡ 2 * octets - (if odd then 1 else 0) }
-{
-    if odd {
-        (2 * octets).saturating_sub(1)
-    } else {
-        2 * octets
-    }
-}
-
 // The digits of octets, low half first; of an odd number the last half is not used.
+#[tactic(auto, using(crate::proofs::Turns::ended))]
 fn read_digits(octets: &[u8], odd: bool) -> Digits
     requires { length octets.now ≤ 28 }
     ensures { digits_held result ≡ digits_of odd octets.now }
 {
     let mut values = [0u8; 56];
+    // Stays: chunks_exact_mut would name each pair, but no proof knows what is written through it.
     for (i, x) in octets.iter().enumerate() {
         values[2 * i] = *x % 16;
         values[2 * i + 1] = *x / 16;
     }
-    let count = digit_count(octets.len(), odd);
-    Digits { values, count }
+    Digits::of_front(values, (2 * octets.len()).saturating_sub(odd as usize))
 }
 
 // A title of a kind other than 0 by its octets; none where they cannot hold a digit.
@@ -95,19 +76,14 @@ impl<'a> Title<'a> {
         ensures figure { DigitFigure }
     {
         match *self {
-            Title::Kind2 {
-                translation_type: _,
-                digits,
-            } if digits.len() <= MOST_DIGIT_OCTETS => Some(read_digits(digits, false)),
-            Title::Kind4 {
-                translation_type: _,
-                numbering_plan: _,
-                encoding,
-                nature: _,
-                digits,
-            } if digits.len() <= MOST_DIGIT_OCTETS && (encoding == ODD || encoding == EVEN) => {
-                Some(read_digits(digits, encoding == ODD))
+            Title::Kind2 { digits, .. } if digits.len() <= MOST_DIGIT_OCTETS => {
+                Some(read_digits(digits, false))
             }
+            Title::Kind4 {
+                encoding: encoding @ (ODD | EVEN),
+                digits,
+                ..
+            } if digits.len() <= MOST_DIGIT_OCTETS => Some(read_digits(digits, encoding == ODD)),
             _ => None,
         }
     }

@@ -1,0 +1,9 @@
+ghost use Rattle.std.specs.Prelude.{◌≤◌};
+
+// At most N octets, in memory of their own: the first `length` of `octets`.
+#[derive(Clone, Copy)]
+pub struct ShortOctets<const N: usize> {
+    pub(crate) octets: [u8; N],
+    pub(crate) length: usize,
+    ghost fits: { length ≤ N },
+}
