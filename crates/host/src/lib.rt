@@ -31,7 +31,8 @@ pub extern "C" fn mezgalt_check(octets: &[u8], offset: &mut u32) -> u32
 pub extern "C" fn mezgalt_piece_count(called: u32, calling: u32, length: u32) -> u32
     ensures { result ≡ count_answer called calling length }
 {
-    pieces::piece_count(called as usize, calling as usize, length as usize) as u32
+    // Stays: 0 where there is none, as the interface to C tells it.
+    pieces::piece_count(called as usize, calling as usize, length as usize).unwrap_or(0) as u32
 }
 
 // The length of the piece of a number, from 0; 0 where there is none.
@@ -44,5 +45,6 @@ pub extern "C" fn mezgalt_piece_length(called: u32, calling: u32, length: u32, i
         calling as usize,
         length as usize,
         index as usize,
-    ) as u32
+    )
+    .unwrap_or(0) as u32
 }

@@ -1,5 +1,6 @@
 -- The options from one to the next, however many may come.
-use Rattle.std.proofs.Common.{◌≡◌, ℕ, zero, suc, ◌+◌, ◌≤◌, Bool, cond, ◌||◌, eqb, leb, List, length, Ok, Result, sym, refl, ap, arith, le-leb}
+use Rattle.std.proofs.Common.{◌≡◌, ℕ, zero, suc, ◌+◌, ◌≤◌, Bool, cond, ◌||◌, eqb, leb, List, length, get_or, drop, Ok, Result, sym, refl, ap, arith, le-leb}
+use Rattle.std.proofs.lemmas.List.{get_or-drop}
 use Rattle.message.specs.declared.faults.ReadFault.{ReadFault}
 use Rattle.message.specs.declared.scanning.OptionSpan.{OptionSpan}
 use Rattle.message.specs.Options.{octet, wrong, cut_at, bad_at, span_by, span_in, span_on}
@@ -19,3 +20,7 @@ enough (suc f) (suc g) from seen m i h k =
 pub span_next : (from : ℕ) (seen : Bool) (m : List ℕ) (i : ℕ) → span_on from seen m i ≡ span_by (λ s j. span_on from s m j) from seen m i
 unfolding span_on
 span_next from seen m i = enough (length m) (suc (length m)) from seen m i (omega arith) (omega arith)
+
+-- the octets from a place on
+pub front : (m : List ℕ) (i k : ℕ) → get_or (drop i m) k 0 ≡ octet m (i + k)
+front m i k = get_or-drop i m k 0

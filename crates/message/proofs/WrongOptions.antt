@@ -9,7 +9,7 @@ use Rattle.message.specs.FirstFault.{WrongFrom}
 use Rattle.message.proofs.Spans.{enough}
 
 -- the next option begins in the message or where it ends
-next_inside : (m : List ℕ) (i : ℕ) → cut_at m i ≡ false → i + 2 + octet m (i + 1) ≤ length m
+pub next_inside : (m : List ℕ) (i : ℕ) → cut_at m i ≡ false → i + 2 + octet m (i + 1) ≤ length m
 next_inside m i e = ltb-false (length m) (i + 2 + octet m (i + 1)) (or_parts (leb (length m) (i + 1)) (ltb (length m) (i + 2 + octet m (i + 1))) e).1
 
 -- nothing before the place where the walk begins is found wrong

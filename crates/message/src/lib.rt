@@ -2,6 +2,7 @@
 // label, read from the octets of a line.
 #![tactic(auto)]
 
+pub mod behind_label;
 pub mod faults;
 pub mod messages;
 pub mod parts_of_options;

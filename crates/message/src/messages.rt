@@ -40,10 +40,8 @@ impl Form {
         ensures { result ≡ class_of self }
     {
         match self {
-            Form::Udt { class } => Some(class % 16),
-            Form::Xudt { class, hop: _ } => Some(class % 16),
-            Form::Udts { cause: _ } => None,
-            Form::Xudts { cause: _, hop: _ } => None,
+            Form::Udt { class } | Form::Xudt { class, .. } => Some(class % 16),
+            Form::Udts { .. } | Form::Xudts { .. } => None,
         }
     }
 
@@ -51,12 +49,7 @@ impl Form {
     pub fn asks_return(self) -> bool
         ensures { result ≡ asks_return self }
     {
-        match self {
-            Form::Udt { class } => class >= 128,
-            Form::Xudt { class, hop: _ } => class >= 128,
-            Form::Udts { cause: _ } => false,
-            Form::Xudts { cause: _, hop: _ } => false,
-        }
+        matches!(self, Form::Udt { class } | Form::Xudt { class, .. } if class >= 128)
     }
 
     // The cause for which data was returned.
@@ -64,10 +57,8 @@ impl Form {
         ensures { result ≡ cause_of self }
     {
         match self {
-            Form::Udt { class: _ } => None,
-            Form::Xudt { class: _, hop: _ } => None,
-            Form::Udts { cause } => Some(cause),
-            Form::Xudts { cause, hop: _ } => Some(cause),
+            Form::Udts { cause } | Form::Xudts { cause, .. } => Some(cause),
+            Form::Udt { .. } | Form::Xudt { .. } => None,
         }
     }
 
@@ -76,10 +67,8 @@ impl Form {
         ensures { result ≡ hop_of self }
     {
         match self {
-            Form::Udt { class: _ } => None,
-            Form::Xudt { class: _, hop } => Some(hop),
-            Form::Udts { cause: _ } => None,
-            Form::Xudts { cause: _, hop } => Some(hop),
+            Form::Xudt { hop, .. } | Form::Xudts { hop, .. } => Some(hop),
+            Form::Udt { .. } | Form::Udts { .. } => None,
         }
     }
 }

@@ -1,11 +1,11 @@
 ghost use Rattle.std.specs.Prelude.{◌≡◌, Option};
 ghost use Rattle.message.specs.Options.{part_seen, first_option, behind_option, segmentation_of, segmentation_found};
 
-const SEGMENTATION: u8 = 0x10;
+pub(crate) const SEGMENTATION: u8 = 0x10;
 
-const SEGMENTATION_LENGTH: u8 = 4;
+pub(crate) const SEGMENTATION_LENGTH: u8 = 4;
 
-const END: u8 = 0x00;
+pub(crate) const END: u8 = 0x00;
 
 // Which piece of a unit a message carries: whether it is the first, the protocol class that
 // the user asked for, how many pieces come after it, and the reference that they share.
@@ -32,8 +32,10 @@ pub struct Options<'a> {
     octets: &'a [u8],
 }
 
-impl Segmentation {
-    pub fn of_octets(octets: [u8; 4]) -> Segmentation
+impl From<[u8; 4]> for Segmentation {
+    ghost from_gives = { λ octets s. s ≡ segmentation_of octets };
+
+    fn from(octets: [u8; 4]) -> Segmentation
         ensures { result ≡ segmentation_of octets }
     {
         let [about, low, middle, high] = octets;
@@ -41,7 +43,7 @@ impl Segmentation {
             first: about >= 128,
             class: about / 64 % 2,
             remaining: about % 16,
-            reference: low as u32 + 256 * middle as u32 + 65_536 * high as u32,
+            reference: u32::from_le_bytes([low, middle, high, 0]),
         }
     }
 }
@@ -51,7 +53,7 @@ fn first_part<'a>(octets: &'a [u8]) -> OptionPart<'a>
     ensures { part_seen result ≡ first_option octets.now }
 {
     match octets {
-        [
+        &[
             SEGMENTATION,
             SEGMENTATION_LENGTH,
             about,
@@ -59,11 +61,11 @@ fn first_part<'a>(octets: &'a [u8]) -> OptionPart<'a>
             middle,
             high,
             ..
-        ] => OptionPart::Segmented(Segmentation::of_octets([*about, *low, *middle, *high])),
+        ] => { OptionPart::Segmented(Segmentation::from([about, low, middle, high])) }
         [name, length, rest @ ..] if *name != END && *length as usize <= rest.len() =>
             OptionPart::Other {
                 name: *name,
-                contents: &rest[0..*length as usize],
+                contents: &rest[..*length as usize],
             },
         _ => OptionPart::End,
     }
@@ -74,9 +76,9 @@ fn behind_part<'a>(octets: &'a [u8]) -> &'a [u8]
     ensures { result.now ≡ behind_option octets.now }
 {
     match octets {
-        [name, length, rest @ ..] if *name != END && *length as usize <= rest.len() => &octets[2
-            + *length as usize..],
-        _ => &octets[octets.len()..],
+        [name, length, rest @ ..] if *name != END && *length as usize <= rest.len() =>
+            &rest[*length as usize..],
+        _ => &[],
     }
 }
 
@@ -105,17 +107,13 @@ impl<'a> Options<'a> {
     }
 
     // The segmentation among the options, if there is one.
-    pub fn segmentation(self) -> Option<Segmentation>
+    pub fn segmentation(mut self) -> Option<Segmentation>
         ensures { result ≡ segmentation_found self.entry.octets.now }
     {
-        let mut rest = self.octets;
         loop {
-            match first_part(rest) {
+            match self.next_part() {
                 OptionPart::Segmented(s) => return Some(s),
-                OptionPart::Other {
-                    name: _,
-                    contents: _,
-                } => rest = behind_part(rest),
+                OptionPart::Other { .. } => {}
                 OptionPart::End => return None,
             }
         }

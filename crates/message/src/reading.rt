@@ -1,15 +1,15 @@
-ghost use Rattle.std.specs.Prelude.{◌≡◌, ◌<◌, ◌≤◌, length, IfOk, Ok};
+ghost use Rattle.std.specs.Prelude.{◌≡◌, ◌-◌, ◌<◌, ◌≤◌, length, slice_index, IfOk, Ok};
 ghost use Rattle.message.specs.Figures.{UdtFigure, PieceFigure};
 ghost use Rattle.message.specs.Faults.{FaultPlace};
 ghost use Rattle.message.specs.FirstFault.{FirstFault};
 ghost use Rattle.message.specs.Inside.{PartsInside};
 ghost use Rattle.message.specs.Options.{SpanInside};
-ghost use Rattle.message.specs.Read.{meaning, trio_seen, places_body, options_place, span_at, has_segmentation, parts_body, body, message_body, parse, check, class_ok, hop_ok, data_place, Placed, OptionInside};
+ghost use Rattle.message.specs.Read.{meaning, trio_seen, places_body, options_place, span_at, parts_body, body, message_body, parse, check, class_ok, hop_ok, data_place, Placed, OptionInside};
 
+use crate::behind_label::Body;
 use crate::faults::{Fault, ReadFault};
 use crate::messages::{Form, Message, Parts};
 use crate::parts_of_options::Options;
-use crate::scanning;
 use crate::scanning::OptionSpan;
 use address::{Address, Label};
 
@@ -53,165 +53,157 @@ pub struct Trio<'a> {
     data: &'a [u8],
 }
 
-// The places that the first three pointers name.
-fn read_places(message: &[u8], p: Pointers) -> Result<Places, ReadFault>
-    requires { (p.at ≤ 3) × (length message.now ≤ 268) }
-    ensures value { result ≡ places_body message.now p }
-    ensures bound { IfOk result (Placed message.now) }
-    ensures place { FaultPlace result }
-{
-    let n = message.len();
-    let called = p.at + p.called as usize;
-    if called < p.start || called >= n {
-        return Err(ReadFault {
-            fault: Fault::Pointer,
-            offset: p.at,
-        });
+impl<'a> Body<'a> {
+    // A UDT or UDTS, whose three pointers end where the rest begins.
+    fn short(octets: &'a [u8], rest: &[u8], values: [u8; 3]) -> Body<'a>
+        requires { (length octets.now ≤ 268) × (length rest.now ≤ length octets.now) }
+        ensures octets { result.octets.now ≡ octets.entry.now }
+        ensures pointers { result.pointers ≡ record { at = 2; start = length octets.entry.now - length rest.now; called = slice_index values 0; calling = slice_index values 1; «data» = slice_index values 2; options = 0 } }
+    {
+        let [called, calling, data] = values;
+        let pointers = Pointers {
+            at: 2,
+            start: octets.len() - rest.len(),
+            called,
+            calling,
+            data,
+            options: 0,
+        };
+        Body { octets, pointers }
     }
-    let calling = p.at + 1 + p.calling as usize;
-    if calling < called + 1 + message[called] as usize || calling >= n {
-        return Err(ReadFault {
-            fault: Fault::Pointer,
-            offset: p.at + 1,
-        });
-    }
-    let data = p.at + 2 + p.data as usize;
-    if data < calling + 1 + message[calling] as usize || data >= n {
-        return Err(ReadFault {
-            fault: Fault::Pointer,
-            offset: p.at + 2,
-        });
-    }
-    Ok(Places {
-        called,
-        calling,
-        data,
-    })
-}
 
-// Where the options begin, if there are any.
-fn options_place(message: &[u8], p: Pointers, data: usize) -> Result<Option<usize>, ReadFault>
-    requires { (p.at ≤ 3) × ((«data» ≡ data_place p) × ((«data» < length message.now) × (length message.now ≤ 268))) }
-    ensures value { result ≡ options_place message.now p }
-    ensures bound { IfOk result (OptionInside message.now) }
-    ensures place { FaultPlace result }
-{
-    if p.options == 0 {
-        return Ok(None);
+    // An XUDT or XUDTS, whose four pointers end where the rest begins.
+    fn long(octets: &'a [u8], rest: &[u8], values: [u8; 4]) -> Body<'a>
+        requires { (length octets.now ≤ 268) × (length rest.now ≤ length octets.now) }
+        ensures octets { result.octets.now ≡ octets.entry.now }
+        ensures pointers { result.pointers ≡ record { at = 3; start = length octets.entry.now - length rest.now; called = slice_index values 0; calling = slice_index values 1; «data» = slice_index values 2; options = slice_index values 3 } }
+    {
+        let [called, calling, data, options] = values;
+        let pointers = Pointers {
+            at: 3,
+            start: octets.len() - rest.len(),
+            called,
+            calling,
+            data,
+            options,
+        };
+        Body { octets, pointers }
     }
-    let place = p.at + 3 + p.options as usize;
-    if place < data + 1 + message[data] as usize || place >= message.len() {
-        return Err(ReadFault {
-            fault: Fault::Pointer,
-            offset: p.at + 3,
-        });
-    }
-    Ok(Some(place))
-}
 
-// The options at their place.
-fn read_options(message: &[u8], place: Option<usize>) -> Result<OptionSpan, ReadFault>
-    requires { (OptionInside message.now place) × (length message.now ≤ 268) }
-    ensures value { result ≡ span_at message.now place }
-    ensures bound { IfOk result (SpanInside message.now) }
-    ensures place { FaultPlace result }
-{
-    match place {
-        None => Ok(OptionSpan {
-            start: 0,
-            end: 0,
-            segmented: false,
-        }),
-        Some(start) => scanning::scan_options(message, start),
+    // The places that the first three pointers name.
+    fn places(self) -> Result<Places, ReadFault>
+        ensures value { result ≡ places_body self.entry.octets.now self.entry.pointers }
+        ensures bound { IfOk result (Placed self.entry.octets.now) }
+    {
+        let message = self.octets;
+        let p = self.pointers;
+        let n = message.len();
+        let called = p.at + p.called as usize;
+        if called < p.start || called >= n {
+            return Err(Fault::Pointer.at(p.at));
+        }
+        let calling = p.at + 1 + p.calling as usize;
+        if calling < called + 1 + message[called] as usize || calling >= n {
+            return Err(Fault::Pointer.at(p.at + 1));
+        }
+        let data = p.at + 2 + p.data as usize;
+        if data < calling + 1 + message[calling] as usize || data >= n {
+            return Err(Fault::Pointer.at(p.at + 2));
+        }
+        Ok(Places {
+            called,
+            calling,
+            data,
+        })
     }
-}
 
-// Whether options were read with segmentation among them.
-fn has_segmentation(span: Result<OptionSpan, ReadFault>) -> bool
-    ensures { result ≡ has_segmentation span }
-{
-    match span {
-        Ok(s) => s.segmented,
-        Err(_) => false,
+    // Where the options begin, if there are any.
+    fn options_place(self, data: usize) -> Result<Option<usize>, ReadFault>
+        requires { («data» ≡ data_place self.pointers) × («data» < length self.octets.now) }
+        ensures value { result ≡ options_place self.entry.octets.now self.entry.pointers }
+        ensures bound { IfOk result (OptionInside self.entry.octets.now) }
+    {
+        let p = self.pointers;
+        if p.options == 0 {
+            return Ok(None);
+        }
+        let place = p.at + 3 + p.options as usize;
+        if place < data + 1 + self.octets[data] as usize || place >= self.octets.len() {
+            return Err(Fault::Pointer.at(p.at + 3));
+        }
+        Ok(Some(place))
     }
-}
 
-// Addresses and data at their places.
-fn read_parts<'a>(message: &'a [u8], q: Places, segmented: bool) -> Result<Trio<'a>, ReadFault>
-    requires { (Placed message.now q) × (length message.now ≤ 268) }
-    ensures value { trio_seen result ≡ parts_body message.now q segmented }
-    ensures place { FaultPlace result }
-{
-    let a = message[q.called] as usize;
-    let called = Address::new(&message[q.called + 1..q.called + 1 + a]);
-    if !called.is_good() {
-        return Err(ReadFault {
-            fault: Fault::Address,
-            offset: q.called,
-        });
+    // The options at their place.
+    fn options_span(self, place: Option<usize>) -> Result<OptionSpan, ReadFault>
+        requires { OptionInside self.octets.now place }
+        ensures value { result ≡ span_at self.entry.octets.now place }
+        ensures bound { IfOk result (SpanInside self.entry.octets.now) }
+    {
+        match place {
+            None => Ok(OptionSpan {
+                start: 0,
+                end: 0,
+                segmented: false,
+            }),
+            Some(start) => self.scan_options(start),
+        }
     }
-    let b = message[q.calling] as usize;
-    let calling = Address::new(&message[q.calling + 1..q.calling + 1 + b]);
-    if !calling.is_good() && (segmented || !calling.is_empty()) {
-        return Err(ReadFault {
-            fault: Fault::Address,
-            offset: q.calling,
-        });
-    }
-    let d = message[q.data] as usize;
-    if d == 0 || q.data + 1 + d > message.len() {
-        return Err(ReadFault {
-            fault: Fault::Data,
-            offset: q.data,
-        });
-    }
-    Ok(Trio {
-        called,
-        calling,
-        data: &message[q.data + 1..q.data + 1 + d],
-    })
-}
 
-// What the pointers of a message name.
-fn read_body<'a>(
-    label: Label,
-    form: Form,
-    message: &'a [u8],
-    p: Pointers,
-) -> Result<Message<'a>, ReadFault>
-    requires { (p.at ≤ 3) × (length message.now ≤ 268) }
-    ensures value { meaning result ≡ body label form message.now p }
-    ensures place { FaultPlace result }
-{
-    let q = read_places(message, p)?;
-    let place = options_place(message, p, q.data)?;
-    let span = read_options(message, place);
-    let trio = read_parts(message, q, has_segmentation(span))?;
-    let OptionSpan {
-        start,
-        end,
-        segmented: _,
-    } = span?;
-    let options = Options::new(&message[start..end]);
-    let parts = Parts {
-        label,
-        form,
-        called: trio.called,
-        calling: trio.calling,
-        data: trio.data,
-        options,
-    };
-    Ok(Message { parts })
+    // Addresses and data at their places.
+    fn trio(self, q: Places, segmented: bool) -> Result<Trio<'a>, ReadFault>
+        requires { Placed self.octets.now q }
+        ensures { trio_seen result ≡ parts_body self.entry.octets.now q segmented }
+    {
+        let message = self.octets;
+        let a = message[q.called] as usize;
+        let called = Address::new(&message[q.called + 1..q.called + 1 + a]);
+        if !called.is_good() {
+            return Err(Fault::Address.at(q.called));
+        }
+        let b = message[q.calling] as usize;
+        let calling = Address::new(&message[q.calling + 1..q.calling + 1 + b]);
+        if !calling.is_good() && (segmented || !calling.is_empty()) {
+            return Err(Fault::Address.at(q.calling));
+        }
+        let d = message[q.data] as usize;
+        if d == 0 || q.data + 1 + d > message.len() {
+            return Err(Fault::Data.at(q.data));
+        }
+        Ok(Trio {
+            called,
+            calling,
+            data: &message[q.data + 1..q.data + 1 + d],
+        })
+    }
+
+    // What the pointers of the message name.
+    #[tactic(auto, unfolding(crate::specs::Read::body))]
+    fn read(self, label: Label, form: Form) -> Result<Message<'a>, ReadFault>
+        ensures { meaning result ≡ body label form self.entry.octets.now self.entry.pointers }
+    {
+        let q = self.places()?;
+        let place = self.options_place(q.data)?;
+        let span = self.options_span(place);
+        let trio = self.trio(q, span.is_ok_and(|s| s.segmented))?;
+        let OptionSpan { start, end, .. } = span?;
+        let parts = Parts {
+            label,
+            form,
+            called: trio.called,
+            calling: trio.calling,
+            data: trio.data,
+            options: Options::new(&self.octets[start..end]),
+        };
+        Ok(Message { parts })
+    }
 }
 
 fn check_class(class: u8) -> Result<(), ReadFault>
     ensures { result ≡ check (class_ok class) Fault.ClassOrHop 1 (Ok tt) }
 {
     if class % 16 > 1 {
-        return Err(ReadFault {
-            fault: Fault::ClassOrHop,
-            offset: 1,
-        });
+        return Err(Fault::ClassOrHop.at(1));
     }
     Ok(())
 }
@@ -220,10 +212,7 @@ fn check_hop(hop: u8) -> Result<(), ReadFault>
     ensures { result ≡ check (hop_ok hop) Fault.ClassOrHop 2 (Ok tt) }
 {
     if hop == 0 || hop > MOST_HOPS {
-        return Err(ReadFault {
-            fault: Fault::ClassOrHop,
-            offset: 2,
-        });
+        return Err(Fault::ClassOrHop.at(2));
     }
     Ok(())
 }
@@ -231,86 +220,37 @@ fn check_hop(hop: u8) -> Result<(), ReadFault>
 // A message of 1 to 268 octets behind its label.
 fn read_message<'a>(label: Label, message: &'a [u8]) -> Result<Message<'a>, ReadFault>
     requires { length message.now ≤ 268 }
-    ensures value { meaning result ≡ message_body label message.now }
-    ensures place { FaultPlace result }
+    ensures { meaning result ≡ message_body label message.now }
 {
     match message {
         [UDT, class, called, calling, data, rest @ ..] => {
-            check_class(*class)?;
-            let start = message.len() - rest.len();
-            let p = Pointers {
-                at: 2,
-                start,
-                called: *called,
-                calling: *calling,
-                data: *data,
-                options: 0,
-            };
-            read_body(label, Form::Udt { class: *class }, message, p)
+            let class = *class;
+            check_class(class)?;
+            Body::short(message, rest, [*called, *calling, *data]).read(label, Form::Udt { class })
         }
         [UDTS, cause, called, calling, data, rest @ ..] => {
-            let start = message.len() - rest.len();
-            let p = Pointers {
-                at: 2,
-                start,
-                called: *called,
-                calling: *calling,
-                data: *data,
-                options: 0,
-            };
-            read_body(label, Form::Udts { cause: *cause }, message, p)
+            let cause = *cause;
+            Body::short(message, rest, [*called, *calling, *data]).read(label, Form::Udts { cause })
         }
         [XUDT, class, hop, called, calling, data, options, rest @ ..] => {
-            check_class(*class)?;
-            check_hop(*hop)?;
-            let start = message.len() - rest.len();
-            let p = Pointers {
-                at: 3,
-                start,
-                called: *called,
-                calling: *calling,
-                data: *data,
-                options: *options,
-            };
-            read_body(
+            let (class, hop) = (*class, *hop);
+            check_class(class)?;
+            check_hop(hop)?;
+            Body::long(message, rest, [*called, *calling, *data, *options]).read(
                 label,
-                Form::Xudt {
-                    class: *class,
-                    hop: *hop,
-                },
-                message,
-                p,
+                Form::Xudt { class, hop },
             )
         }
         [XUDTS, cause, hop, called, calling, data, options, rest @ ..] => {
-            check_hop(*hop)?;
-            let start = message.len() - rest.len();
-            let p = Pointers {
-                at: 3,
-                start,
-                called: *called,
-                calling: *calling,
-                data: *data,
-                options: *options,
-            };
-            read_body(
+            let (cause, hop) = (*cause, *hop);
+            check_hop(hop)?;
+            Body::long(message, rest, [*called, *calling, *data, *options]).read(
                 label,
-                Form::Xudts {
-                    cause: *cause,
-                    hop: *hop,
-                },
-                message,
-                p,
+                Form::Xudts { cause, hop },
             )
         }
-        [UDT | UDTS | XUDT | XUDTS, ..] => Err(ReadFault {
-            fault: Fault::PointersCutOff,
-            offset: 0,
-        }),
-        _ => Err(ReadFault {
-            fault: Fault::MessageType,
-            offset: 0,
-        }),
+        [UDT | UDTS | XUDT | XUDTS, ..] => Err(Fault::PointersCutOff.at(0)),
+        _ => Err(Fault::MessageType.at(0)),
     }
 }
 
@@ -325,13 +265,8 @@ pub fn read<'a>(octets: &'a [u8]) -> Result<Message<'a>, ReadFault>
     ensures figures { UdtFigure × PieceFigure }
 {
     match octets {
-        [a, b, c, d, message @ ..] if !message.is_empty() && octets.len() <= MOST => read_message(
-            Label::of_octets([*a, *b, *c, *d]),
-            message,
-        ),
-        _ => Err(ReadFault {
-            fault: Fault::Length,
-            offset: 0,
-        }),
+        &[a, b, c, d, ref message @ ..] if !message.is_empty() && octets.len() <= MOST =>
+            read_message(Label::from([a, b, c, d]), message),
+        _ => Err(Fault::Length.at(0)),
     }
 }

@@ -1,5 +1,5 @@
 -- The lengths of the pieces of a unit; a and b are the lengths of the written addresses.
-use Rattle.std.specs.Prelude.{◌≡◌, ℕ, zero, suc, ◌+◌, ◌-◌, ◌*◌, ◌/◌, ◌≤◌, min, Bool, cond, ◌&&◌, List, [], ◌∷◌, length, nat_le, nat_lt}
+use Rattle.std.specs.Prelude.{◌≡◌, ℕ, zero, suc, ◌+◌, ◌-◌, ◌*◌, ◌/◌, ◌≤◌, min, Bool, cond, ◌&&◌, List, [], ◌∷◌, length, Some, None, Option, nat_le, nat_lt}
 
 -- what one message carries, and what one piece
 abbrev pub in_one : ℕ → ℕ → ℕ
@@ -24,11 +24,19 @@ in_range a b n = nat_le 2 a && (nat_le a 32 && (nat_le 2 b && (nat_le b 32 && (n
 abbrev pub sendable : ℕ → ℕ → ℕ → Bool
 sendable a b n = in_range a b n && nat_le (piece_count a b n) 16
 
+-- in how many pieces it goes, and how long each is: as a number that is 0 where there is none,
+-- and as an option
 abbrev pub count_answer : ℕ → ℕ → ℕ → ℕ
 count_answer a b n = cond (sendable a b n) (piece_count a b n) 0
 
+abbrev pub count_found : ℕ → ℕ → ℕ → Option ℕ
+count_found a b n = cond (sendable a b n) (Some (piece_count a b n)) None
+
 abbrev pub length_answer : ℕ → ℕ → ℕ → ℕ → ℕ
 length_answer a b n i = cond (sendable a b n && nat_lt i (piece_count a b n)) (piece_length a b n i) 0
+
+abbrev pub length_found : ℕ → ℕ → ℕ → ℕ → Option ℕ
+length_found a b n i = cond (sendable a b n && nat_lt i (piece_count a b n)) (Some (piece_length a b n i)) None
 
 -- the octets of an XUDT with its label, d of data and o of options: label 4, fixed part and
 -- pointers 7, and three length octets

@@ -2,8 +2,9 @@
 // without segmentation; a longer one goes in pieces, each an XUDT with segmentation.
 #![tactic(auto)]
 
-ghost use Rattle.std.specs.Prelude.{◌≡◌, ◌≤◌};
-ghost use Rattle.pieces.specs.Pieces.{piece_count, in_range, count_answer, length_answer, AddsUp, Fewest, Figures};
+ghost use Rattle.std.specs.Prelude.{◌≡◌, ◌≤◌, IfSome};
+ghost use Rattle.std.specs.Option.{unwrap_or};
+ghost use Rattle.pieces.specs.Pieces.{piece_count, in_range, count_answer, count_found, length_answer, length_found, AddsUp, Fewest, Figures};
 
 // A line message has at most 272 octets. Label, fixed part, pointers and three length octets
 // take 14 of them; segmentation with its end mark takes 7 more.
@@ -21,14 +22,14 @@ const MOST_ADDRESS: usize = 32;
 
 // The number of pieces of a unit that can be sent at all, however many they are.
 fn count_of(called: usize, calling: usize, length: usize) -> usize
-    requires { (called ≤ 32) × ((calling ≤ 32) × (length ≤ 3952)) }
-    ensures { result ≡ piece_count called calling length }
+    requires { (called ≤ 32) × ((calling ≤ 32) × ((1 ≤ length) × (length ≤ 3952))) }
+    ensures value { result ≡ piece_count called calling length }
+    ensures bound { 1 ≤ result }
 {
-    let each = ONE_PIECE - called - calling;
     if length <= ONE_MESSAGE - called - calling {
         1
     } else {
-        (length + each - 1) / each
+        length.div_ceil(ONE_PIECE - called - calling)
     }
 }
 
@@ -36,57 +37,41 @@ fn count_of(called: usize, calling: usize, length: usize) -> usize
 fn in_range(called: usize, calling: usize, length: usize) -> bool
     ensures { result ≡ in_range called calling length }
 {
-    LEAST_ADDRESS <= called
-        && called <= MOST_ADDRESS
-        && LEAST_ADDRESS <= calling
-        && calling <= MOST_ADDRESS
-        && 1 <= length
-        && length <= MOST_UNIT
-}
-
-fn count_or_none(called: usize, calling: usize, length: usize) -> usize
-    ensures { result ≡ count_answer called calling length }
-{
-    if !in_range(called, calling, length) {
-        return 0;
-    }
-    let count = count_of(called, calling, length);
-    if count <= MOST_PIECES { count } else { 0 }
-}
-
-fn length_or_none(called: usize, calling: usize, length: usize, index: usize) -> usize
-    ensures { result ≡ length_answer called calling length index }
-{
-    if !in_range(called, calling, length) {
-        return 0;
-    }
-    let count = count_of(called, calling, length);
-    if count > MOST_PIECES || index >= count {
-        return 0;
-    }
-    let each = ONE_PIECE - called - calling;
-    if length <= ONE_MESSAGE - called - calling {
-        length
-    } else {
-        each.min(length.saturating_sub(index * each))
-    }
+    (LEAST_ADDRESS..=MOST_ADDRESS).contains(&called)
+        && (LEAST_ADDRESS..=MOST_ADDRESS).contains(&calling)
+        && (1..=MOST_UNIT).contains(&length)
 }
 
 // In how many messages a unit of so many octets goes out, between a called and a calling
-// address of these lengths: 1 where it goes in one. 0 where an address length is not 2 to 32,
-// the unit is not 1 to 3,952 octets, or it would take more than 16 pieces.
-pub fn piece_count(called: usize, calling: usize, length: usize) -> usize
-    ensures value { result ≡ count_answer called calling length }
+// address of these lengths: 1 where it goes in one. None where an address length is not 2 to
+// 32, the unit is not 1 to 3,952 octets, or it would take more than 16 pieces.
+#[tactic(auto, using(crate::proofs::Cuts::fewest, crate::proofs::Cuts::figures))]
+pub fn piece_count(called: usize, calling: usize, length: usize) -> Option<usize>
+    ensures value { unwrap_or result 0 ≡ count_answer called calling length }
+    ensures found { result ≡ count_found called calling length }
+    ensures some { IfSome result (λ k. (1 ≤ k) × (k ≤ 16)) }
     ensures fewest { Fewest }
     ensures figures { Figures }
 {
-    count_or_none(called, calling, length)
+    if !in_range(called, calling, length) {
+        return None;
+    }
+    let count = count_of(called, calling, length);
+    (count <= MOST_PIECES).then_some(count)
 }
 
-// The length of the piece of a number, from 0; 0 where there is none.
-pub fn piece_length(called: usize, calling: usize, length: usize, index: usize) -> usize
-    ensures value { result ≡ length_answer called calling length index }
+// The length of the piece of a number, from 0; none where there is no such piece.
+pub fn piece_length(called: usize, calling: usize, length: usize, index: usize) -> Option<usize>
+    ensures value { unwrap_or result 0 ≡ length_answer called calling length index }
+    ensures found { result ≡ length_found called calling length index }
     ensures adds_up { AddsUp }
 {
-    length_or_none(called, calling, length, index)
+    if index >= piece_count(called, calling, length)? {
+        return None;
+    }
+    if length <= ONE_MESSAGE - called - calling {
+        return Some(length);
+    }
+    let each = ONE_PIECE - called - calling;
+    Some(each.min(length.saturating_sub(index * each)))
 }

@@ -1,10 +1,11 @@
 -- What is written reads back the same.
-use Rattle.std.proofs.Common.{◌≡◌, ℕ, ◌+◌, ◌-◌, ◌*◌, ◌/◌, ◌%◌, ◌<◌, ◌≤◌, Bool, true, false, cond, ◌&&◌, eqb, ltb, leb, List, [], ◌∷◌, ◌++◌, length, take, drop, Some, None, Ok, Err, Option, Result, sym, refl, ap, ◌∙◌, subst, append_assoc, arith, length-append}
+use Rattle.std.proofs.Common.{◌≡◌, ℕ, ◌+◌, ◌-◌, ◌<◌, ◌≤◌, Bool, true, false, cond, ◌&&◌, eqb, ltb, leb, List, [], ◌∷◌, ◌++◌, length, take, drop, Some, None, Ok, Err, Option, Result, sym, refl, ap, ◌∙◌, subst, append_assoc, arith, length-append}
 use Rattle.std.proofs.lemmas.List.{take_at, drop_at, get_or_at, drop-drop, take_all}
 use Rattle.std.proofs.lemmas.Bool.{leb-true, le-leb, lt-ltb, and_from, and_parts, ne_eqb, cond-false}
 use Rattle.address.specs.declared.labels.Label.{Label}
-use Rattle.address.specs.Label.{LabelReadsBack, label_octets, label_of, label_word, word}
+use Rattle.address.specs.Label.{label_octets, label_of}
 use Rattle.address.specs.Address.{address_ok}
+use Rattle.address.proofs.LabelLaws.{label_back}
 use Rattle.message.specs.declared.faults.Fault.{Fault}
 use Rattle.message.specs.declared.faults.ReadFault.{ReadFault}
 use Rattle.message.specs.declared.messages.Form.{Form}
@@ -176,23 +177,6 @@ module _ (l : Label) (a b d o : List ℕ) (oka : address_ok a ≡ true) (okb : c
       passes _ _ _ _ (le-leb 7 (length (octets_of_is (Xudt c h))) (omega arith)) ∙ passes _ _ _ _ k.0 ∙ passes _ _ _ _ k.1 ∙ long_back (Xudt c h) 0x11 c h
   message_back (Xudts c h) okf none =
       passes _ _ _ _ (le-leb 7 (length (octets_of_is (Xudts c h))) (omega arith)) ∙ passes _ _ _ _ okf ∙ long_back (Xudts c h) 0x12 c h
-
-low_part : (x y : ℕ) → x < 16384 → (x + 16384 * y) % 16384 ≡ x
-low_part x y h = omega arith
-
-abbrev labelled : ℕ → Label
-labelled w = record { dpc = w % 16384; opc = w / 16384 % 16384; sls = w / 268435456 }
-
-label_back : LabelReadsBack
-label_back l f =
-    let s : label_word l ≡ l.dpc + 16384 * l.opc + 268435456 * l.sls = omega arith in
-    let e : word (label_octets l) ≡ label_word l = omega arith in
-    let x : label_word l % 16384 ≡ l.dpc = omega arith in
-    let q : label_word l / 16384 ≡ l.opc + 16384 * l.sls = omega arith in
-    let y : label_word l / 16384 % 16384 ≡ l.opc = ap (λ k. k % 16384) q ∙ low_part l.opc l.sls f.1 in
-    let z : label_word l / 268435456 ≡ l.sls = omega arith in
-    let same : labelled (label_word l) ≡ l = λ t. record { dpc = x t; opc = y t; sls = z t } in
-    ap labelled e ∙ same
 
 body_length : (p : Parsed) → 4 + length (body_octets (kept p)) ≡ size p
 body_length p =

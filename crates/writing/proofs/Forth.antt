@@ -1,10 +1,11 @@
 -- What is read without gaps or tail is written the same.
-use Rattle.std.proofs.Common.{◌≡◌, ℕ, ◌+◌, ◌-◌, ◌*◌, ◌/◌, ◌%◌, ◌<◌, ◌≤◌, Bool, true, false, cond, ◌&&◌, eqb, leb, ◌⊎◌, List, [], ◌∷◌, ◌++◌, length, take, drop, Some, None, Ok, Option, Result, sym, refl, ap, ◌∙◌, subst, inl, inr, ⊎_elim, arith, length-drop, take-append-drop}
+use Rattle.std.proofs.Common.{◌≡◌, ℕ, ◌+◌, ◌-◌, ◌<◌, ◌≤◌, Bool, true, false, cond, ◌&&◌, eqb, leb, ◌⊎◌, List, [], ◌∷◌, ◌++◌, length, take, drop, Some, None, Ok, Option, Result, sym, refl, ap, ◌∙◌, subst, inl, inr, ⊎_elim, arith, length-drop, take-append-drop}
 use Rattle.std.proofs.lemmas.List.{drop-drop, drop_more, drop_all, take_all, length-take-le}
 use Rattle.std.proofs.lemmas.Bool.{leb-true, eqb-true, eq-eqb, ne_eqb, and_parts, cond-true, cond-false, both_ways}
 use Rattle.address.specs.declared.labels.Label.{Label}
-use Rattle.address.specs.Label.{LabelWritesBack, label_octets, label_of, label_word, word, word_octets}
+use Rattle.address.specs.Label.{label_octets, label_of}
 use Rattle.address.specs.Address.{address_ok}
+use Rattle.address.proofs.LabelLaws.{label_forth}
 use Rattle.message.specs.declared.faults.Fault.TheVariants.{Length, Pointer, Address, Data}
 use Rattle.message.specs.declared.faults.ReadFault.{ReadFault}
 use Rattle.message.specs.declared.messages.Form.{Form}
@@ -197,22 +198,6 @@ message_forth l m q gapless read =
     let octets : body_octets (kept (parts l f m p o)) ≡ m =
     ap (λ w. head f (n w) ++ (sized x ++ (sized y ++ (sized z ++ w)))) none ∙ ap (λ w. head f (n o) ++ w) b.3 ∙ t.headed (n o) g.first b.4 b.5 b.6 in
     (sym (ap (λ w. w.label) b.1), sym (ap (λ w. body_octets (kept w)) b.1) ∙ octets))
-
-low_octet : (x y : ℕ) → x < 256 → (x + 256 * y) % 256 ≡ x
-low_octet x y h = omega arith
-
-label_forth : LabelWritesBack
-label_forth a b c d ha hb hc hd =
-    let x : List ℕ = a ∷ b ∷ c ∷ d ∷ [] in
-    let e : label_word (label_of x) ≡ word x = omega arith in
-    let p : word x % 256 ≡ a = omega arith in
-    let q1 : word x / 256 ≡ b + 256 * (c + 256 * d) = omega arith in
-    let q : word x / 256 % 256 ≡ b = ap (λ v. v % 256) q1 ∙ low_octet b (c + 256 * d) hb in
-    let r1 : word x / 65536 ≡ c + 256 * d = omega arith in
-    let r : word x / 65536 % 256 ≡ c = ap (λ v. v % 256) r1 ∙ low_octet c d hc in
-    let s : word x / 16777216 ≡ d = omega arith in
-    let same : word_octets (word x) ≡ a ∷ b ∷ c ∷ d ∷ [] = λ t. p t ∷ q t ∷ r t ∷ s t ∷ [] in
-    ap word_octets e ∙ same
 
 pub read_writes_back : ReadWritesBack
 unfolding laid parse

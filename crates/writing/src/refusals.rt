@@ -1,21 +1,12 @@
-use std::fmt;
+use thiserror::Error;
 
 // Why a message is not written.
-#[derive(Clone, Copy, PartialEq, Eq, Debug)]
+#[derive(Clone, Copy, PartialEq, Eq, Debug, Error)]
 pub enum WriteRefusal {
+    #[error("the message would be longer than 272 octets, or an address or the data than 255")]
     TooLong,
+    #[error("a pointer would be above 255")]
     PointerTooFar,
+    #[error("the buffer has fewer octets than the message")]
     ShortBuffer,
-}
-
-impl fmt::Display for WriteRefusal {
-    fn fmt<W: fmt::Write>(&self, f: &mut fmt::Formatter<W>) -> fmt::Result {
-        let words = match *self {
-            WriteRefusal::TooLong =>
-                "the message would be longer than 272 octets, or an address or the data than 255",
-            WriteRefusal::PointerTooFar => "a pointer would be above 255",
-            WriteRefusal::ShortBuffer => "the buffer has fewer octets than the message",
-        };
-        write!(f, "{words}")
-    }
 }

@@ -38,10 +38,8 @@ fn options_in<'a>(form: Form, options: &'a [u8]) -> &'a [u8]
     ensures { result.now ≡ options_in form options.now }
 {
     match form {
-        Form::Udt { class: _ } => &[],
-        Form::Udts { cause: _ } => &[],
-        Form::Xudt { class: _, hop: _ } => options,
-        Form::Xudts { cause: _, hop: _ } => options,
+        Form::Udt { .. } | Form::Udts { .. } => &[],
+        Form::Xudt { .. } | Form::Xudts { .. } => options,
     }
 }
 
@@ -75,10 +73,8 @@ fn head_size(form: Form) -> usize
     ensures { result ≡ head_size form }
 {
     match form {
-        Form::Udt { class: _ } => SHORT_HEAD,
-        Form::Udts { cause: _ } => SHORT_HEAD,
-        Form::Xudt { class: _, hop: _ } => LONG_HEAD,
-        Form::Xudts { cause: _, hop: _ } => LONG_HEAD,
+        Form::Udt { .. } | Form::Udts { .. } => SHORT_HEAD,
+        Form::Xudt { .. } | Form::Xudts { .. } => LONG_HEAD,
     }
 }
 
@@ -88,10 +84,8 @@ fn pointer_count(form: Form) -> usize
     ensures bound { result ≤ 4 }
 {
     match form {
-        Form::Udt { class: _ } => SHORT_POINTERS,
-        Form::Udts { cause: _ } => SHORT_POINTERS,
-        Form::Xudt { class: _, hop: _ } => LONG_POINTERS,
-        Form::Xudts { cause: _, hop: _ } => LONG_POINTERS,
+        Form::Udt { .. } | Form::Udts { .. } => SHORT_POINTERS,
+        Form::Xudt { .. } | Form::Xudts { .. } => LONG_POINTERS,
     }
 }
 
@@ -173,7 +167,7 @@ fn fill(s: Slices, n: Lengths, out: &mut [u8])
     requires room { size_of s.form n ≤ length out.old }
     ensures { out.new ≡ laid (slices_seen s.entry) ++ drop (size_of s.entry.form n) out.old }
 {
-    octets::put(out, 0, &s.label.to_octets());
+    octets::put(out, 0, &<[u8; 4]>::from(s.label));
     put_head(out, s.form, n);
     let called = LABEL + head_size(s.form);
     put_part(out, called, s.called);

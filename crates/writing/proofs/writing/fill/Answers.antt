@@ -23,7 +23,7 @@ returns c =
     c.put.new.out c.put_head.new.out c.put_part.new.out c.put_part-2.new.out c.put_part-3.new.out c.put-2.new.out
     4 (4 + k) (4 + k + 1 + n.called) (4 + k + 1 + n.called + 1 + n.calling) (4 + k + 1 + n.called + 1 + n.calling + 1 + n.«data») (size_of p.form n)
     refl (omega arith) (omega arith) (omega arith) (omega arith) (omega arith) c.requires.room
-    (c.put.ensures ∙ ap (over out 0) c.to_octets.ensures.value)
+    (c.put.ensures ∙ ap (over out 0) c.from.ensures.value)
     (c.put_head.ensures ∙ ap (λ z. over c.put.new.out 4 (head p.form z)) en)
     c.put_part.ensures
     c.put_part-2.ensures
