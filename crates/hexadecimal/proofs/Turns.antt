@@ -1,20 +1,14 @@
 -- Digits read and written one octet after the other, and both ways round.
-use Rattle.std.proofs.Common.{◌≡◌, ℕ, ◌+◌, ◌*◌, ◌/◌, ◌%◌, ◌<◌, ◌≤◌, cond, List, [], ◌∷◌, ◌++◌, length, get_or, drop, Some, None, sym, refl, ap, ◌∙◌, append_assoc, arith}
-use Rattle.std.proofs.lemmas.List.{drop_more, drop_all, append-nil}
+use Rattle.std.proofs.Common.{◌≡◌, ℕ, ◌+◌, ◌-◌, ◌*◌, ◌/◌, ◌%◌, ◌<◌, ◌≤◌, cond, List, [], ◌∷◌, ◌++◌, length, get_or, take, drop, Some, None, sym, refl, ap, ◌∙◌, append_assoc, arith}
+use Rattle.std.proofs.lemmas.List.{take_rest, append-nil}
 use Rattle.std.proofs.lemmas.Bool.{eq-eqb, ne_eqb}
 use Rattle.std.proofs.lemmas.Bool.Decides.{nat_tests}
 use Rattle.hexadecimal.specs.Hexadecimal.{digit_value, digit_text, joined, pair_value, with, octets_on, octets_in, octet_text, digits_of, text_of, Octets, ReadsBack}
 
-pub turn : (done text : List ℕ) (i : ℕ) → i + 1 < length text → octets_on done (drop i text) ≡ with (pair_value (get_or text i 0) (get_or text (i + 1) 0)) (λ x. octets_on (done ++ x ∷ []) (drop (i + 2) text))
-turn done text i h =
-    let e : i + 1 + 1 ≡ i + 2 = omega arith in
-    ap (octets_on done) (drop_more text i 0 (omega arith) ∙ ap (λ r. get_or text i 0 ∷ r) (drop_more text (i + 1) 0 h ∙ ap (λ k. get_or text (i + 1) 0 ∷ drop k text) e))
-
-pub lone : (done text : List ℕ) (i : ℕ) → i < length text → length text ≤ i + 1 → octets_on done (drop i text) ≡ None
-lone done text i h k = ap (octets_on done) (drop_more text i 0 h ∙ ap (λ r. get_or text i 0 ∷ r) (drop_all (i + 1) text k))
-
-pub over : (done text : List ℕ) (i : ℕ) → length text ≤ i → octets_on done (drop i text) ≡ Some done
-over done text i h = ap (octets_on done) (drop_all i text h)
+pub turn : (done text : List ℕ) → 2 ≤ length text → octets_on done text ≡ with (pair_value (get_or text 0 0) (get_or text 1 0)) (λ x. octets_on (done ++ x ∷ []) (take (length text - 2) (drop 2 text)))
+turn done [] h = absurd (omega arith)
+turn done (x ∷ []) h = absurd (omega arith)
+turn done (x ∷ y ∷ rest) h = ap (λ z. with (pair_value x y) (λ v. octets_on (done ++ v ∷ []) z)) (sym (take_rest (x ∷ y ∷ rest) 2))
 
 pub digits_push : (xs : List ℕ) (x : ℕ) → digits_of (xs ++ x ∷ []) ≡ digits_of xs ++ octet_text x
 digits_push [] x = refl

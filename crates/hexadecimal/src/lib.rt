@@ -4,14 +4,26 @@
 
 ghost use Rattle.std.specs.Prelude.{◌≡◌, ◌<◌, [], ◌++◌, IfSome, IfOk, string_bytes, OnOk};
 ghost use Rattle.hexadecimal.specs.Hexadecimal.{digit_value, pair_value, digit_text, octets_on, octets_in, octet_text, text_of, Made, ReadsBack};
+ghost use Rattle.hexadecimal.specs.declared.NoOctets.TheVariants.{NoMemory};
 
-use std::alloc::{AllocError, Global};
+use std::alloc::{AllocError, AllocFailed, Global};
+use thiserror::Error;
 
 // Why a word is no octets.
-#[derive(Clone, Copy, PartialEq, Eq, Debug)]
+#[derive(Clone, Copy, PartialEq, Eq, Debug, Error)]
 pub enum NoOctets {
+    #[error("octets are an even number of hexadecimal digits, or `-` for none")]
     NotHexadecimal,
+    #[error("out of memory")]
     NoMemory,
+}
+
+impl<T: Drop> From<AllocFailed<T>> for NoOctets {
+    ghost from_gives = { λ _ e. e ≡ NoMemory };
+
+    fn from(_failed: AllocFailed<T>) -> NoOctets {
+        NoOctets::NoMemory
+    }
 }
 
 fn digit_value(b: u8) -> Option<u8>
@@ -37,10 +49,7 @@ fn digit_text(v: u8) -> u8
 fn pair_value(high: u8, low: u8) -> Option<u8>
     ensures { result ≡ pair_value high low }
 {
-    match (digit_value(high), digit_value(low)) {
-        (Some(h), Some(l)) => Some(16 * h + l),
-        _ => None,
-    }
+    Some(16 * digit_value(high)? + digit_value(low)?)
 }
 
 // The octets of digits, two digits each.
@@ -48,20 +57,13 @@ fn octets_of_digits(heap: Global, text: &[u8]) -> Result<Vec<u8>, NoOctets>
     ensures { Made (octets_on [] text.now) result }
 {
     let mut out = Vec::new(heap);
-    let mut i = 0;
-    while i < text.len() {
-        if i + 1 >= text.len() {
-            return Err(NoOctets::NotHexadecimal);
-        }
-        match pair_value(text[i], text[i + 1]) {
-            Some(x) => {
-                if out.push(x).is_err() {
-                    return Err(NoOctets::NoMemory);
-                }
-            }
-            None => return Err(NoOctets::NotHexadecimal),
-        }
-        i += 2;
+    let mut rest = text;
+    while let [high, low, behind @ ..] = rest {
+        out.push(pair_value(*high, *low).ok_or(NoOctets::NotHexadecimal)?)?;
+        rest = behind;
+    }
+    if !rest.is_empty() {
+        return Err(NoOctets::NotHexadecimal);
     }
     Ok(out)
 }
@@ -83,8 +85,7 @@ fn push_octet(out: &mut String, x: u8) -> Result<(), AllocError>
     ensures { OnOk result (string_bytes out.new ≡ string_bytes out.old ++ octet_text x) }
 {
     out.push(digit_text(x / 16) as char)?;
-    out.push(digit_text(x % 16) as char)?;
-    Ok(())
+    out.push(digit_text(x % 16) as char)
 }
 
 // The text of octets.

@@ -135,16 +135,14 @@ mod tests {
 
     // The number and the offset of what reading answers.
     fn answer(octets: &[u8]) -> (u8, usize) {
-        match message::read(octets) {
-            Ok(_) => (0, 0),
-            Err(e) => (e.fault.number(), e.offset),
-        }
+        message::read(octets)
+            .err()
+            .map_or((0, 0), |e| (e.fault.number(), e.offset))
     }
 
     #[test]
     fn every_case_is_answered_as_worked_out(rt: HostRuntime) -> Result<(), Fail> {
-        for case in CASES.iter() {
-            let (text, number, offset) = *case;
+        for &(text, number, offset) in CASES.iter() {
             let octets = hexadecimal::octets_of(rt.alloc(), text)?;
             assert_eq!(rt; answer(octets.as_slice()), (number, offset), "{}", text);
         }
@@ -154,10 +152,7 @@ mod tests {
     #[test]
     fn a_unit_data_message_field_by_field(rt: HostRuntime) -> Result<(), Fail> {
         let octets = hexadecimal::octets_of(rt.alloc(), "05400230090003050702420802420603a1a2a3")?;
-        let Ok(m) = message::read(octets.as_slice()) else {
-            return Err(Fail::new("it is a message"));
-        };
-        let p = m.parts();
+        let p = message::read(octets.as_slice())?.parts();
         assert_eq!(rt;
             p.label,
             Label {
@@ -182,10 +177,7 @@ mod tests {
             rt.alloc(),
             "0540023011010f0406080a02420802420602d1d212010310048107000000",
         )?;
-        let Ok(m) = message::read(octets.as_slice()) else {
-            return Err(Fail::new("it is a message"));
-        };
-        let p = m.parts();
+        let p = message::read(octets.as_slice())?.parts();
         let piece = Segmentation {
             first: true,
             class: 0,
@@ -195,44 +187,37 @@ mod tests {
         assert_eq!(rt; p.form, Form::Xudt { class: 1, hop: 15 });
         assert_eq!(rt; p.options.segmentation(), Some(piece));
         let mut options = p.options;
-        match options.next_part() {
-            OptionPart::Other { name, contents } => assert!(rt;
-                name == 0x12 && contents == [3].as_slice()
-            ),
-            _ => return Err(Fail::new("another name is first")),
-        }
-        match options.next_part() {
-            OptionPart::Segmented(s) => assert_eq!(rt; s, piece),
-            _ => return Err(Fail::new("segmentation is second")),
-        }
-        match options.next_part() {
-            OptionPart::End => Ok(()),
-            _ => Err(Fail::new("the end is third")),
-        }
+        let OptionPart::Other { name, contents } = options.next_part() else {
+            return Err(Fail::new("another name is first"));
+        };
+        assert!(rt; name == 0x12 && contents == [3].as_slice());
+        let OptionPart::Segmented(second) = options.next_part() else {
+            return Err(Fail::new("segmentation is second"));
+        };
+        assert_eq!(rt; second, piece);
+        assert!(rt;
+            matches!(options.next_part(), OptionPart::End),
+            "the end is third"
+        );
+        Ok(())
     }
 
-    // The digits of a title, as a number of which each decimal is a digit; 0 for none.
-    fn digits_of(address: &[u8]) -> u64 {
-        let Some(title) = Address::new(address).title() else {
-            return 0;
-        };
-        let Some(digits) = title.digits() else {
-            return 0;
-        };
-        let mut n = 0u64;
-        for d in digits.as_slice() {
-            n = n.wrapping_mul(10).wrapping_add(u64::from(*d));
-        }
-        n
+    // The digits of a title, as a number of which each decimal is a digit.
+    fn digits_of(address: &[u8]) -> Option<u64> {
+        let digits = Address::new(address).title()?.digits()?;
+        let number = digits.octets().iter().fold(0u64, |n, d| {
+            n.wrapping_mul(10).wrapping_add(u64::from(*d))
+        });
+        Some(number)
     }
 
     #[test]
     fn digits_of_both_kinds_of_title(rt: HostRuntime) {
-        assert_eq!(rt; digits_of(&[0x12, 8, 0, 0x11, 4, 0x21, 0x43]), 123);
-        assert_eq!(rt; digits_of(&[0x12, 8, 0, 0x12, 4, 0x21, 0x43]), 1234);
-        assert_eq!(rt; digits_of(&[0x12, 8, 0, 0x13, 4, 0x21, 0x43]), 0);
-        assert_eq!(rt; digits_of(&[0x0a, 8, 0, 0x21, 0x43]), 1234);
-        assert_eq!(rt; digits_of(&[0x42, 8]), 0);
+        assert_eq!(rt; digits_of(&[0x12, 8, 0, 0x11, 4, 0x21, 0x43]), Some(123));
+        assert_eq!(rt; digits_of(&[0x12, 8, 0, 0x12, 4, 0x21, 0x43]), Some(1234));
+        assert_eq!(rt; digits_of(&[0x12, 8, 0, 0x13, 4, 0x21, 0x43]), None);
+        assert_eq!(rt; digits_of(&[0x0a, 8, 0, 0x21, 0x43]), Some(1234));
+        assert_eq!(rt; digits_of(&[0x42, 8]), None);
     }
 
     #[test]
@@ -297,29 +282,20 @@ mod tests {
         ),
     ];
 
-    // Whether octets are read, and what was read is written as wanted.
-    fn is_rewritten(octets: &[u8], wanted: &[u8]) -> bool {
+    // Whether octets, which are read, are then written as wanted.
+    fn is_rewritten(octets: &[u8], wanted: &[u8]) -> Result<bool, Fail> {
         let mut buffer = [0xeeu8; 300];
-        let Ok(m) = message::read(octets) else {
-            return false;
-        };
-        let Ok(n) = writing::write(m.parts(), &mut buffer) else {
-            return false;
-        };
-        match buffer.get(0..n) {
-            Some(part) => part == wanted,
-            None => false,
-        }
+        let n = writing::write(message::read(octets)?.parts(), &mut buffer)?;
+        Ok(buffer.get(..n).is_some_and(|part| part == wanted))
     }
 
     #[test]
     fn what_was_read_is_written_without_gaps(rt: HostRuntime) -> Result<(), Fail> {
-        for case in REWRITTEN.iter() {
-            let (given, wanted) = *case;
+        for &(given, wanted) in REWRITTEN.iter() {
             let octets = hexadecimal::octets_of(rt.alloc(), given)?;
             let wanted = hexadecimal::octets_of(rt.alloc(), wanted)?;
             assert!(rt;
-                is_rewritten(octets.as_slice(), wanted.as_slice()),
+                is_rewritten(octets.as_slice(), wanted.as_slice())?,
                 "{}",
                 given
             );
@@ -343,11 +319,7 @@ mod tests {
             sls: 3,
         };
         let options = Options::new(options);
-        let out = if room < 300 {
-            &mut buffer[0..room]
-        } else {
-            &mut buffer[0..300]
-        };
+        let room = room.min(300);
         let answer = writing::write(
             Parts {
                 label,
@@ -357,7 +329,7 @@ mod tests {
                 data,
                 options,
             },
-            out,
+            &mut buffer[..room],
         );
         (answer, buffer == [0xeeu8; 300])
     }
