@@ -13,10 +13,11 @@ use Rattle.message.specs.declared.reading.Places.{Places}
 use Rattle.message.specs.declared.scanning.OptionSpan.{OptionSpan}
 use Rattle.message.specs.Options.{octet, option_span}
 use Rattle.message.specs.Read.{Parsed, Three, check, after, end_of, part, within, called_place, calling_place, data_place, options_place, span_at, has_segmentation, calling_ok, data_ok, parsed, parts_body, body}
+use Rattle.message.specs.Faults.{FaultPlace}
 use Rattle.message.specs.FirstFault.{PointerWrong, WrongFrom, FaultIn, First, options_start, segmented}
 use Rattle.message.specs.Inside.{Stands, InOrder, PartsInside}
 use Rattle.message.proofs.Orders.{Clear, clear_more, clear_all, stop, checked_on, chosen_on}
-use Rattle.message.proofs.WrongOptions.{options_first, options_inside, SpanFirst, Spanned}
+use Rattle.message.proofs.WrongOptions.{options_first, options_inside, wrong_inside, SpanFirst, Spanned}
 
 -- a part of what stands behind the label stands in the whole, four octets on
 pub stands_behind : (x : List ℕ) (i n : ℕ) → 4 ≤ length x → i + n ≤ length (drop 4 x) → Stands x (4 + i) (take n (drop i (drop 4 x))) × (length (take n (drop i (drop 4 x))) ≡ n)
@@ -44,16 +45,19 @@ pointer_cases m p k (inr (inl h)) a b c d = b h.0 h.1
 pointer_cases m p k (inr (inr (inl h))) a b c d = c h.0 h.1
 pointer_cases m p k (inr (inr (inr h))) a b c d = d h.0 h.1 h.2
 
-module _ (x : List ℕ) (p : Pointers) (low : 4 ≤ length x) (five : 5 ≤ p.start) (l : Label) (f : Form) where
+module _ (x : List ℕ) (p : Pointers) (low : 4 ≤ length x) (high : length x ≤ 272) (five : 5 ≤ p.start) (early : p.at ≤ 3) (l : Label) (f : Form) where
   abbrev m : List ℕ
   m = drop 4 x
 
   abbrev Holds : Fault → ℕ → Type 0
   Holds = FaultIn x m p
 
-  -- an answer is the first fault, or a message whose parts are in order
+  -- an answer is the first fault, which lies in the message, or a message whose parts are in order
   abbrev pub Right : Result Parsed ReadFault → Type 0
-  Right r = First Holds r × PartsInside x r
+  Right r = First Holds r × PartsInside x r × FaultPlace r
+
+  short : length m ≤ 268
+  short = let d = length-drop 4 x in omega arith
 
   abbrev halted : Fault → ℕ → Result Parsed ReadFault
   halted g o = Err (record { fault = g; offset = o })
@@ -120,12 +124,13 @@ module _ (x : List ℕ) (p : Pointers) (low : 4 ≤ length x) (five : 5 ≤ p.st
     span_right : (i : ℕ) (z : eqb p.options 0 ≡ false) → p.at + 3 + p.options ≡ i → W4 ≡ true → Clear Holds 18 → (r : Result OptionSpan ReadFault) → SpanFirst (suc (length m)) false m i r → Spanned i m r → Right (after r (λ s. Ok (ended s)))
     span_right i z ei e4 clear (Ok s) first inside =
         let w4 = within_parts m (end_of m (data_place p)) (p.at + 3 + p.options) e4 in
-        (clear_all Holds (ended s) (clear_more Holds Options clear (λ o h. first o (subst (λ j. WrongFrom (suc (length m)) false m j o) ei h.1))), in_order s.start (s.end - s.start) (omega arith) (omega arith))
+        (clear_all Holds (ended s) (clear_more Holds Options clear (λ o h. first o (subst (λ j. WrongFrom (suc (length m)) false m j o) ei h.1))), in_order s.start (s.end - s.start) (omega arith) (omega arith), tt)
     span_right i z ei e4 clear (Err e) first inside =
         let same : ◌≡◌ {A = ReadFault} (record { fault = Options; offset = e.offset }) e = ap (λ g. record { fault = g; offset = e.offset }) (sym first.0) in (
           subst (λ d. First {A = Parsed} Holds (Err d)) same
               (stop Parsed Holds Options e.offset clear (z, subst (λ j. WrongFrom (suc (length m)) false m j e.offset) (sym ei) first.1) (λ k h. first.2 k (subst (λ j. WrongFrom (suc (length m)) false m j k) ei h.1))),
           tt,
+          let w = wrong_inside (suc (length m)) false m i e.offset first.1 in let s = short in omega arith,
         )
 
     -- no options: none can be wrong
@@ -134,12 +139,16 @@ module _ (x : List ℕ) (p : Pointers) (low : 4 ≤ length x) (five : 5 ≤ p.st
         let inside = leb-true (end_of m (data_place p)) (length m) (and_parts (leb 1 (octet m (data_place p))) (leb (end_of m (data_place p)) (length m)) d).1 in (
           clear_all Holds (ended (record { start = 0; end = 0; segmented = false })) (clear_more Holds Options clear (λ o h. both_ways (eqb p.options 0) h.0 z)),
           in_order (end_of m (data_place p)) 0 (omega arith) (omega arith),
+          tt,
         )
 
     -- addresses and data, once the pointers are right
     parts-right : (o : Option ℕ) → options_start p ≡ o → Clear Holds 16 → (data_ok m (data_place p) ≡ true → Clear Holds 18 → Right (on_parts o three)) → Right (on_options q o)
     parts-right o eo clear go =
+        let s = short in
+        let w1 = within_parts m p.start (called_place p) e1 in
         let w2 = within_parts m (end_of m (called_place p)) (calling_place p) e2 in
+        let w3 = within_parts m (end_of m (calling_place p)) (data_place p) e3 in
         let sg = has_segmentation (span_at m o) in
         let es : segmented m p ≡ sg = ap (λ k. has_segmentation (span_at m k)) eo in
         let called = address_ok (part m (called_place p)) in
@@ -149,14 +158,14 @@ module _ (x : List ℕ) (p : Pointers) (low : 4 ≤ length x) (five : 5 ≤ p.st
         let k2 = check content Data (data_place p) k3 in
         let k1 = check calling Address (calling_place p) k2 in
         checked_on Right called Address (called_place p) k1 (on_parts o)
-        (λ e. (stop Parsed Holds Address (called_place p) clear (inl (refl, e)) (λ k h. ⊎_elim (λ (a : (k ≡ called_place p) × (called ≡ false)). omega arith) (λ b. omega arith) h), tt))
+        (λ e. (stop Parsed Holds Address (called_place p) clear (inl (refl, e)) (λ k h. ⊎_elim (λ (a : (k ≡ called_place p) × (called ≡ false)). omega arith) (λ b. omega arith) h), tt, omega arith))
         (λ a1.
         checked_on Right calling Address (calling_place p) k2 (on_parts o)
-        (λ e. (stop Parsed Holds Address (calling_place p) clear (inr (refl, ap (calling_ok (part m (calling_place p))) es ∙ e)) (λ k h. ⊎_elim (λ (a : (k ≡ called_place p) × (called ≡ false)). absurd (both_ways called a.1 a1)) (λ b. omega arith) h), tt))
+        (λ e. (stop Parsed Holds Address (calling_place p) clear (inr (refl, ap (calling_ok (part m (calling_place p))) es ∙ e)) (λ k h. ⊎_elim (λ (a : (k ≡ called_place p) × (called ≡ false)). absurd (both_ways called a.1 a1)) (λ b. omega arith) h), tt, omega arith))
         (λ a2.
         let clear17 = clear_more Holds Address clear (λ k h. ⊎_elim (λ (a : (k ≡ called_place p) × (called ≡ false)). both_ways called a.1 a1) (λ b. both_ways calling (sym (ap (calling_ok (part m (calling_place p))) es) ∙ b.1) a2) h) in
         checked_on Right content Data (data_place p) k3 (on_parts o)
-        (λ e. (stop Parsed Holds Data (data_place p) clear17 (refl, e) (λ k h. omega arith), tt))
+        (λ e. (stop Parsed Holds Data (data_place p) clear17 (refl, e) (λ k h. omega arith), tt, omega arith))
         (λ d. go d (clear_more Holds Data clear17 (λ k h. both_ways content h.1 d)))))
 
     -- the options' pointer, once the others are right
@@ -170,7 +179,7 @@ module _ (x : List ℕ) (p : Pointers) (low : 4 ≤ length x) (five : 5 ≤ p.st
         (λ z. parts-right None (ap (λ b. cond b None (Some i)) z) (clear16 (λ w. absurd (both_ways (eqb p.options 0) w z))) (none_right z))
         (λ z.
         checked_on Right W4 Pointer (p.at + 3) named (on_options q)
-        (λ e. (stop Parsed Holds Pointer (p.at + 3) clear (inr (inr (inr (refl, z, e)))) (λ k h. pointer_cases m p k h (λ _ w. absurd (both_ways W1 w e1)) (λ _ w. absurd (both_ways W2 w e2)) (λ _ w. absurd (both_ways W3 w e3)) (λ g _ _. omega arith)), tt))
+        (λ e. (stop Parsed Holds Pointer (p.at + 3) clear (inr (inr (inr (refl, z, e)))) (λ k h. pointer_cases m p k h (λ _ w. absurd (both_ways W1 w e1)) (λ _ w. absurd (both_ways W2 w e2)) (λ _ w. absurd (both_ways W3 w e3)) (λ g _ _. omega arith)), tt, omega arith))
         (λ e4.
         let w4 = within_parts m (end_of m (data_place p)) i e4 in
         parts-right (Some i) (ap (λ b. cond b None (Some i)) z) (clear16 (λ _. e4))
@@ -184,11 +193,11 @@ module _ (x : List ℕ) (p : Pointers) (low : 4 ≤ length x) (five : 5 ≤ p.st
       let k2 = check W3 Pointer (p.at + 2) k3 in
       let k1 = check W2 Pointer (p.at + 1) k2 in
       checked_on Right W1 Pointer p.at k1 on_places
-      (λ e. (stop Parsed Holds Pointer p.at clear (inl (refl, e)) (λ k h. pointer_cases m p k h (λ g _. omega arith) (λ g _. omega arith) (λ g _. omega arith) (λ g _ _. omega arith)), tt))
+      (λ e. (stop Parsed Holds Pointer p.at clear (inl (refl, e)) (λ k h. pointer_cases m p k h (λ g _. omega arith) (λ g _. omega arith) (λ g _. omega arith) (λ g _ _. omega arith)), tt, omega arith))
       (λ e1.
       checked_on Right W2 Pointer (p.at + 1) k2 on_places
-      (λ e. (stop Parsed Holds Pointer (p.at + 1) clear (inr (inl (refl, e))) (λ k h. pointer_cases m p k h (λ _ w. absurd (both_ways W1 w e1)) (λ g _. omega arith) (λ g _. omega arith) (λ g _ _. omega arith)), tt))
+      (λ e. (stop Parsed Holds Pointer (p.at + 1) clear (inr (inl (refl, e))) (λ k h. pointer_cases m p k h (λ _ w. absurd (both_ways W1 w e1)) (λ g _. omega arith) (λ g _. omega arith) (λ g _ _. omega arith)), tt, omega arith))
       (λ e2.
       checked_on Right W3 Pointer (p.at + 2) k3 on_places
-      (λ e. (stop Parsed Holds Pointer (p.at + 2) clear (inr (inr (inl (refl, e)))) (λ k h. pointer_cases m p k h (λ _ w. absurd (both_ways W1 w e1)) (λ _ w. absurd (both_ways W2 w e2)) (λ g _. omega arith) (λ g _ _. omega arith)), tt))
+      (λ e. (stop Parsed Holds Pointer (p.at + 2) clear (inr (inr (inl (refl, e)))) (λ k h. pointer_cases m p k h (λ _ w. absurd (both_ways W1 w e1)) (λ _ w. absurd (both_ways W2 w e2)) (λ g _. omega arith) (λ g _ _. omega arith)), tt, omega arith))
       (λ e3. options-right e1 e2 e3 clear)))

@@ -4,5 +4,4 @@ pub mod Orders
 pub mod WrongOptions
 pub mod Bodies
 pub mod FirstFault
-pub mod FaultPlaces
 pub mod Laws

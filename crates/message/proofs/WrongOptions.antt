@@ -9,7 +9,7 @@ use Rattle.message.specs.FirstFault.{WrongFrom}
 use Rattle.message.proofs.Spans.{enough}
 
 -- the next option begins in the message or where it ends
-pub next_inside : (m : List ℕ) (i : ℕ) → cut_at m i ≡ false → i + 2 + octet m (i + 1) ≤ length m
+next_inside : (m : List ℕ) (i : ℕ) → cut_at m i ≡ false → i + 2 + octet m (i + 1) ≤ length m
 next_inside m i e = ltb-false (length m) (i + 2 + octet m (i + 1)) (or_parts (leb (length m) (i + 1)) (ltb (length m) (i + 2 + octet m (i + 1))) e).1
 
 -- nothing before the place where the walk begins is found wrong
@@ -21,6 +21,16 @@ not_before (suc n) seen m i o l (inr h) =
     (λ (a : (o ≡ i) × ((cut_at m i || bad_at seen m i) ≡ true)). omega arith)
     (λ (b : (cut_at m i ≡ false) × WrongFrom n (eqb (octet m i) 16 || seen) m (i + 2 + octet m (i + 1)) o).
     let k = not_before n (eqb (octet m i) 16 || seen) m (i + 2 + octet m (i + 1)) o (next_inside m i b.0) b.1 in omega arith)
+    h.2
+
+-- what is found wrong lies in the message or at its end
+pub wrong_inside : (n : ℕ) (seen : Bool) (m : List ℕ) (i o : ℕ) → WrongFrom n seen m i o → o ≤ length m
+wrong_inside zero seen m i o h = absurd h
+wrong_inside (suc n) seen m i o (inl h) = omega arith
+wrong_inside (suc n) seen m i o (inr h) =
+    ⊎_elim
+    (λ (a : (o ≡ i) × ((cut_at m i || bad_at seen m i) ≡ true)). omega arith)
+    (λ (b : (cut_at m i ≡ false) × WrongFrom n (eqb (octet m i) 16 || seen) m (i + 2 + octet m (i + 1)) o). wrong_inside n (eqb (octet m i) 16 || seen) m (i + 2 + octet m (i + 1)) o b.1)
     h.2
 
 -- an answer of the walk is the first that is wrong, or none is

@@ -2,8 +2,7 @@ use Rattle.std.proofs.Common.{◌≡◌, Err, Result, rules}
 use Rattle.std.proofs.lemmas.List.{take_rest}
 use Rattle.message.specs.declared.faults.ReadFault.{ReadFault}
 use Rattle.message.specs.Read.{Parsed, parse, meaning}
-use Rattle.message.proofs.FaultPlaces.{fault_place}
-use Rattle.message.proofs.Laws.{first_fault, parts_inside, udt_figure, piece_figure}
+use Rattle.message.proofs.Laws.{fault_place, first_fault, parts_inside, udt_figure, piece_figure}
 use Rattle.message.proofs.reading.read.Goals as goal
 
 pub returns-in-len4-up : goal.returns-in-len4-up
