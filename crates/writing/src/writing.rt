@@ -44,27 +44,33 @@ fn options_in<'a>(form: Form, options: &'a [u8]) -> &'a [u8]
 }
 
 // The octets of the parts that are written.
-fn slices_of<'a>(parts: Parts<'a>) -> Slices<'a>
-    ensures { slices_seen result ≡ kept (seen parts.entry) }
-{
-    Slices {
-        label: parts.label,
-        form: parts.form,
-        called: parts.called.octets(),
-        calling: parts.calling.octets(),
-        data: parts.data,
-        options: options_in(parts.form, parts.options.octets()),
+impl<'a> From<Parts<'a>> for Slices<'a> {
+    ghost from_gives = { λ parts slices. slices_seen slices ≡ kept (seen parts) };
+
+    fn from(parts: Parts<'a>) -> Slices<'a>
+        ensures { slices_seen result ≡ kept (seen parts.entry) }
+    {
+        Slices {
+            label: parts.label,
+            form: parts.form,
+            called: parts.called.octets(),
+            calling: parts.calling.octets(),
+            data: parts.data,
+            options: options_in(parts.form, parts.options.octets()),
+        }
     }
 }
 
-fn lengths_of(s: Slices) -> Lengths
-    ensures { result ≡ lengths_of (slices_seen s.entry) }
-{
-    Lengths {
-        called: s.called.len(),
-        calling: s.calling.len(),
-        data: s.data.len(),
-        options: s.options.len(),
+impl Slices<'_> {
+    fn lengths(self) -> Lengths
+        ensures { result ≡ lengths_of (slices_seen self.entry) }
+    {
+        Lengths {
+            called: self.called.len(),
+            calling: self.calling.len(),
+            data: self.data.len(),
+            options: self.options.len(),
+        }
     }
 }
 
@@ -103,6 +109,7 @@ fn to_options(pointers: usize, n: Lengths) -> usize
 
 // The size of a message whose parts have these lengths. They may be any: each is tested before
 // they are added up.
+// Stays: a struct of form and lengths with Fitting as its ghost field would ask each caller to say of which message it is.
 fn measure(form: Form, n: Lengths) -> Result<usize, WriteRefusal>
     ensures value { result ≡ measured form n }
     ensures bound { IfOk result (λ k. (k ≡ size_of form n) × Fitting form n) }
@@ -183,8 +190,8 @@ fn write_parts(parts: Parts, buffer: &mut [u8]) -> Result<usize, WriteRefusal>
     ensures answer { result ≡ write_answer (seen parts.entry) (length buffer.old) }
     ensures buffer { buffer.new ≡ buffer_after (seen parts.entry) buffer.old result }
 {
-    let slices = slices_of(parts);
-    let n = lengths_of(slices);
+    let slices = Slices::from(parts);
+    let n = slices.lengths();
     let size = measure(parts.form, n)?;
     if buffer.len() < size {
         return Err(WriteRefusal::ShortBuffer);
