@@ -14,6 +14,7 @@ pub extern "C" fn mezgalt_check(octets: &[u8], offset: &mut u32) -> u32
     ensures number { result ≡ check_number (parse octets.now) }
     ensures place { offset.new ≡ check_offset (parse octets.now) }
 {
+    // Stays: numbers and an offset through a reference, as the interface to C needs them.
     match message::read(octets) {
         Ok(_) => {
             *offset = 0;
@@ -40,6 +41,7 @@ pub extern "C" fn mezgalt_piece_count(called: u32, calling: u32, length: u32) ->
 pub extern "C" fn mezgalt_piece_length(called: u32, calling: u32, length: u32, index: u32) -> u32
     ensures { result ≡ length_answer called calling length index }
 {
+    // Stays: 0 where there is none, as the interface to C tells it.
     pieces::piece_length(
         called as usize,
         calling as usize,
