@@ -1,14 +1,16 @@
 -- What a put and a take leave of a ring of cells.
 use Rattle.std.specs.Prelude.{◌≡◌, ℕ, zero, suc, ◌+◌, ◌-◌, ◌*◌, ◌<◌, ◌≤◌, true, ◌≢◌, ◌⊎◌, List, [], ◌∷◌, ◌++◌, map, length, take, drop, slice_index, slice_index_or}
-use Rattle.std.proofs.Common.{arith, zero-add, sym, ap, ◌∙◌, inl, inr, below_more}
+use Rattle.std.proofs.Common.{arith, zero-add, sym, ap, ◌∙◌, subst, inl, inr, below_more}
 use Rattle.std.specs.List.{range_with_len}
 use Rattle.std.proofs.lemmas.Bool.{cases_order}
 use Rattle.std.proofs.lemmas.Bool.Decides.{nat_tests}
 use Rattle.std.proofs.lemmas.List.{take_all, length-take, length-drop}
 use Rattle.std.proofs.lemmas.List.FromFn.{length-map-range_with_len, map-range_with_len_more}
-use Rattle.line.specs.Meaning.{fits, all_fit, least_octets, most_octets}
-use Rattle.line.specs.Written.{over, two, two_octets, SameOut}
-use Rattle.line.proofs.Writes.{over_length, over_in, over_out, two_over, part_same}
+use Rattle.line.specs.Meaning.{fits, all_fit, least_octets, most_octets, oldest, others}
+use Rattle.octets.specs.Over.{over}
+use Rattle.line.specs.Written.{two, two_octets, SameOut}
+use Rattle.octets.proofs.Over.{over_length}
+use Rattle.line.proofs.Writes.{over_in, over_out, two_over, part_same}
 use Rattle.line.proofs.Fitting.{map_same, all_fit_map, fits_bounds, bounds_fit}
 use Rattle.cell_line.specs.Ring.{cell_octets, wrap, cell_start, cell_message, messages, Held}
 
@@ -68,7 +70,7 @@ wrote_length : (a m : List ℕ) (cells head count : ℕ) → Put a m cells head 
 wrote_length a m cells head count p =
     let i = start_in cells head count (length a) p.inside p.headin (let r = p.room in omega arith) in
     let u = p.most in
-    over_length a (cell_start cells head count) (two_octets (length m) ++ m) (omega arith)
+    over_length a (two_octets (length m) ++ m) (cell_start cells head count) (omega arith)
 
 wrote_same : (a m : List ℕ) (cells head count : ℕ) → Put a m cells head count → SameOut (wrote a cells head count m) a (cell_start cells head count) (cell_start cells head count + cell_octets)
 wrote_same a m cells head count p k side =
@@ -102,9 +104,9 @@ wrote_cell a m cells head count p k l =
     (start_in cells head k (length a) p.inside p.headin (omega arith))
     (fits_bounds (two a (cell_start cells head k)) (p.held k l)).1
 
-pub ring_put : (a m : List ℕ) (cells head count : ℕ) → Put a m cells head count → messages (wrote a cells head count m) cells head (count + 1) ≡ messages a cells head count ++ m ∷ []
+ring_wrote : (a m : List ℕ) (cells head count : ℕ) → Put a m cells head count → messages (wrote a cells head count m) cells head (count + 1) ≡ messages a cells head count ++ m ∷ []
 unfolding messages
-ring_put a m cells head count p =
+ring_wrote a m cells head count p =
     let f : ℕ → List ℕ = λ k. cell_message a (cell_start cells head k) in
     let g : ℕ → List ℕ = λ k. cell_message (wrote a cells head count m) (cell_start cells head k) in
     let agree : (k : ℕ) → k < count → g (0 + k) ≡ f (0 + k) = λ k l. ap g (zero-add k) ∙ ((wrote_cell a m cells head count p k l).1 ∙ ap f (sym (zero-add k))) in
@@ -112,11 +114,17 @@ ring_put a m cells head count p =
     ∙ (ap (λ xs. xs ++ g count ∷ []) (map_same g f 0 0 count agree)
     ∙ ap (λ x. map f (range_with_len 0 count) ++ x ∷ []) (wrote_message a m cells head count p))
 
-pub held_put : (a m : List ℕ) (cells head count : ℕ) → Put a m cells head count → Held (wrote a cells head count m) cells head (count + 1)
-held_put a m cells head count p =
+held_wrote : (a m : List ℕ) (cells head count : ℕ) → Put a m cells head count → Held (wrote a cells head count m) cells head (count + 1)
+held_wrote a m cells head count p =
     below_more (λ k. fits (two (wrote a cells head count m) (cell_start cells head k)) ≡ true) count
     (λ k l. ap fits (wrote_cell a m cells head count p k l).0 ∙ p.held k l)
     (ap fits (wrote_two a m cells head count p) ∙ bounds_fit (length m) p.least p.most)
+
+pub ring_put : (a b m : List ℕ) (cells head count : ℕ) → cell_octets * cells ≤ length a → head < cells → count < cells → least_octets ≤ length m → length m ≤ most_octets → Held a cells head count → b ≡ wrote a cells head count m → messages b cells head (count + 1) ≡ messages a cells head count ++ m ∷ []
+ring_put a b m cells head count i h r l u held w = ap (λ z. messages z cells head (count + 1)) w ∙ ring_wrote a m cells head count (record { inside = i; headin = h; room = r; least = l; most = u; held = held })
+
+pub held_put : (a b m : List ℕ) (cells head count : ℕ) → cell_octets * cells ≤ length a → head < cells → count < cells → least_octets ≤ length m → length m ≤ most_octets → Held a cells head count → b ≡ wrote a cells head count m → Held b cells head (count + 1)
+held_put a b m cells head count i h r l u held w = subst (λ (z : List ℕ). Held z cells head (count + 1)) (sym w) (held_wrote a m cells head count (record { inside = i; headin = h; room = r; least = l; most = u; held = held }))
 
 -- the oldest message taken
 pub ring_take : (a : List ℕ) (cells head count : ℕ) → head < cells → count ≤ cells → 0 < count → messages a cells head count ≡ cell_message a (cell_octets * head) ∷ messages a cells (wrap cells head 1) (count - 1)
@@ -130,8 +138,14 @@ ring_take a cells head (suc n) h u p =
     let tl : map f (range_with_len (0 + 1) n) ≡ map g (range_with_len 0 (suc n - 1)) = map_same f g (0 + 1) 0 n agree ∙ ap (λ x. map g (range_with_len 0 x)) (omega arith) in
     ap (λ x. x ∷ map f (range_with_len (0 + 1) n)) hd ∙ ap (λ xs. cell_message a (cell_octets * head) ∷ xs) tl
 
-pub held_take : (a : List ℕ) (cells head count : ℕ) → head < cells → count ≤ cells → 0 < count → Held a cells head count → Held a cells (wrap cells head 1) (count - 1)
-held_take a cells head count h u p held k l = ap (λ (x : ℕ). fits (two a (cell_octets * x))) (wrap_next cells head k h (omega arith)) ∙ held (k + 1) (omega arith)
+pub oldest_is : (a : List ℕ) (cells head count : ℕ) → head < cells → count ≤ cells → 0 < count → oldest (messages a cells head count) ≡ cell_message a (cell_octets * head)
+oldest_is a cells head count h u p = ap oldest (ring_take a cells head count h u p)
+
+pub others_are : (a : List ℕ) (cells head count : ℕ) → head < cells → count ≤ cells → 0 < count → messages a cells (wrap cells head 1) (count - 1) ≡ others (messages a cells head count)
+others_are a cells head count h u p = sym (ap others (ring_take a cells head count h u p))
+
+pub held_take : (a : List ℕ) (cells head next count : ℕ) → next ≡ wrap cells head 1 → head < cells → count ≤ cells → 0 < count → Held a cells head count → Held a cells next (count - 1)
+held_take a cells head next count e h u p held k l = ap (λ (x : ℕ). fits (two a (cell_octets * x))) (ap (λ (x : ℕ). wrap cells x k) e ∙ wrap_next cells head k h (omega arith)) ∙ held (k + 1) (omega arith)
 
 pub held_oldest : (a : List ℕ) (cells head count : ℕ) → head < cells → 0 < count → Held a cells head count → (least_octets ≤ two a (cell_octets * head)) × (two a (cell_octets * head) ≤ most_octets)
 held_oldest a cells head count h p held = fits_bounds (two a (cell_octets * head)) (ap (λ (x : ℕ). fits (two a (cell_octets * x))) (sym (wrap_zero cells head h)) ∙ held 0 p)

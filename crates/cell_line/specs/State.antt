@@ -1,7 +1,8 @@
 -- What a cell line holds and means, and what its calls leave of its area.
 use Rattle.std.specs.Prelude.{ℕ, ◌-◌, List, ◌++◌, length, Ok, Err, vec_items, Result}
 use Rattle.line.specs.declared.refusal.LineRefusal.{LineRefusal}
-use Rattle.line.specs.Written.{over, two_octets}
+use Rattle.octets.specs.Over.{over}
+use Rattle.line.specs.Written.{two_octets}
 use Rattle.cell_line.specs.declared.cells.CellLine.{CellLine}
 use Rattle.cell_line.specs.Ring.{messages, cell_start, wrap}
 

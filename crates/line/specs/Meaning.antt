@@ -21,6 +21,10 @@ all_fit (m ∷ ms) = fits (length m) && all_fit ms
 abbrev pub least_places : ℕ
 least_places = 16
 
+-- and stands in an area of at least so many octets
+abbrev pub least_area : ℕ
+least_area = 4416
+
 -- put, of a message of so many octets to a line with so many places
 abbrev pub put_answer : ℕ → ℕ → Result (Unit {0}) LineRefusal
 put_answer places n = cond (fits n) (cond (places == 0) (Err NoPlace) (Ok tt)) (Err BadLength)

@@ -1,9 +1,5 @@
--- Octets written into an area of octets.
-use Rattle.std.specs.Prelude.{◌≡◌, ℕ, ◌+◌, ◌*◌, ◌/◌, ◌%◌, ◌<◌, ◌≤◌, ◌⊎◌, List, [], ◌∷◌, ◌++◌, length, take, drop, slice_index}
-
--- an area with octets written over it from a place on
-unfoldable pub over : List ℕ → ℕ → List ℕ → List ℕ
-over xs at ys = take at xs ++ (ys ++ drop (at + length ys) xs)
+-- Numbers in two octets of an area, and what a write leaves.
+use Rattle.std.specs.Prelude.{◌≡◌, ℕ, ◌+◌, ◌*◌, ◌/◌, ◌%◌, ◌<◌, ◌≤◌, ◌⊎◌, List, [], ◌∷◌, slice_index}
 
 -- a number in two octets, low octet first, and the number that two octets at a place tell
 abbrev pub two_octets : ℕ → List ℕ

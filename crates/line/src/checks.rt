@@ -9,7 +9,7 @@ use crate::refusal::LineRefusal;
 pub fn may_put(places: usize, octets: usize) -> Result<(), LineRefusal>
     ensures { result ≡ put_answer places octets }
 {
-    if octets < MESSAGE_LEAST || octets > MESSAGE_MOST {
+    if !(MESSAGE_LEAST..=MESSAGE_MOST).contains(&octets) {
         return Err(LineRefusal::BadLength);
     }
     if places == 0 {

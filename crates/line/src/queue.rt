@@ -9,9 +9,6 @@ pub const MESSAGE_LEAST: usize = 5;
 
 pub const MESSAGE_MOST: usize = 272;
 
-// The fewest octets of an area that a line is made in.
-pub const AREA_LEAST: usize = 4416;
-
 pub trait Line {
     // The messages that wait, oldest first, each by its octets.
     ghost waiting: { Self → List (List ℕ) };

@@ -2,20 +2,21 @@
 ghost use Rattle.std.specs.Prelude.{◌≡◌, Some};
 ghost use Rattle.line.specs.Refusals.{refusal_number, refusal_words};
 
+use std::error::Error;
 use std::fmt;
 
 #[derive(Clone, Copy, PartialEq, Eq, Debug)]
 pub enum LineRefusal {
     // the area given for a line has fewer than 4,416 octets
-    AreaTooSmall,
+    AreaTooSmall = 60,
     // a message to put has fewer than 5 or more than 272 octets
-    BadLength,
+    BadLength = 61,
     // the line has no place left
-    NoPlace,
+    NoPlace = 62,
     // nothing waits on the line
-    NothingWaiting,
+    NothingWaiting = 63,
     // the buffer to take into has fewer than 272 octets
-    ShortBuffer,
+    ShortBuffer = 64,
 }
 
 impl LineRefusal {
@@ -23,13 +24,7 @@ impl LineRefusal {
     pub fn number(&self) -> u8
         ensures { result ≡ refusal_number self.now }
     {
-        match self {
-            LineRefusal::AreaTooSmall => 60,
-            LineRefusal::BadLength => 61,
-            LineRefusal::NoPlace => 62,
-            LineRefusal::NothingWaiting => 63,
-            LineRefusal::ShortBuffer => 64,
-        }
+        *self as u8
     }
 
     // What the refusal means, in words.
@@ -46,6 +41,7 @@ impl LineRefusal {
     }
 }
 
+// Stays: written by hand, since it promises its words and a derive promises none.
 impl fmt::Display for LineRefusal {
     ghost output = { λ x. Some (refusal_words x) };
 
@@ -53,3 +49,5 @@ impl fmt::Display for LineRefusal {
         f.write_str(self.words())
     }
 }
+
+impl Error for LineRefusal {}

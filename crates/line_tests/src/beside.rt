@@ -19,74 +19,26 @@ pub(crate) fn check(holds: bool) -> Result<(), Fail>
 // What fills a buffer before a take.
 pub const FILL: u8 = 0xEE;
 
-// How the places of a line are counted.
-#[derive(Clone, Copy)]
-pub enum Room {
-    Cells(usize),
-    Octets(usize),
-}
-
-fn used(list: &[Vec<u8>]) -> usize {
-    let mut sum = 0usize;
-    for m in list {
-        sum = sum.saturating_add(m.len()).saturating_add(4);
-    }
-    sum
-}
-
-impl Room {
-    pub(crate) fn places(&self, list: &[Vec<u8>]) -> usize {
-        match self {
-            Room::Cells(cells) => cells.saturating_sub(list.len()),
-            Room::Octets(total) => total.saturating_sub(used(list)) / 276,
-        }
-    }
-}
-
 // The number of a refusal, or 0 where there is none.
 pub(crate) fn number_of<T: Drop>(r: &Result<T, LineRefusal>) -> u8 {
-    match r {
-        Ok(_) => 0,
-        Err(e) => e.number(),
-    }
+    r.as_ref().err().map_or(0, |e| e.number())
 }
 
 // A message of n octets, of which each tells its place and a seed.
 pub(crate) fn message(heap: Global, n: usize, seed: u8) -> Result<Vec<u8>, Fail> {
-    let mut m = Vec::new(heap);
-    for i in 0..n {
-        m.push(((i % 251) as u8).wrapping_add(seed))?;
-    }
-    Ok(m)
+    Ok(
+        (0..n)
+            .map(|i| ((i % 251) as u8).wrapping_add(seed))
+            .collect(heap)?,
+    )
 }
 
 fn put_number(places: usize, n: usize) -> u8 {
-    if n < 5 || n > 272 {
-        61
-    } else if places == 0 {
-        62
-    } else {
-        0
+    match n {
+        5..=272 if places == 0 => 62,
+        5..=272 => 0,
+        _ => 61,
     }
-}
-
-// Puts a message on the line and into the list, if it should be accepted; tells whether it was.
-pub(crate) fn put_beside<L: Line>(
-    line: &mut L,
-    room: Room,
-    list: &mut Vec<Vec<u8>>,
-    m: Vec<u8>,
-) -> Result<bool, Fail> {
-    let places = room.places(list);
-    check(line.places() == places)?;
-    let expected = put_number(places, m.len());
-    let got = line.put(&m);
-    check(number_of(&got) == expected)?;
-    if expected == 0 {
-        list.push(m)?;
-    }
-    check(line.places() == room.places(list))?;
-    Ok(expected == 0)
 }
 
 fn take_number(count: usize, size: usize) -> u8 {
@@ -100,41 +52,77 @@ fn take_number(count: usize, size: usize) -> u8 {
 }
 
 fn all_fill(part: &[u8]) -> bool {
-    for b in part {
-        if *b != FILL {
-            return false;
-        }
-    }
-    true
+    part.iter().all(|b| *b == FILL)
 }
 
 // The buffer holds the message at its front and nothing else new.
 fn check_buffer(buffer: &[u8], n: usize, m: &[u8]) -> Result<(), Fail> {
     check(n == m.len())?;
     check(n <= buffer.len())?;
-    check(&buffer[0..n] == m)?;
+    check(&buffer[..n] == m)?;
     check(all_fill(&buffer[n..]))
 }
 
-// Takes a message from the line and from the list into a buffer of some size; tells whether there was one.
-pub(crate) fn take_beside<L: Line>(
-    heap: Global,
-    line: &mut L,
-    room: Room,
-    list: &mut Vec<Vec<u8>>,
-    size: usize,
-) -> Result<bool, Fail> {
-    let expected = take_number(list.len(), size);
-    let mut buffer = vec![in heap; FILL; size]?;
-    let got = line.take(&mut buffer);
-    check(number_of(&got) == expected)?;
-    if let Ok(n) = got {
-        check(list.len() > 0)?;
-        let m = list.remove(0);
-        check_buffer(&buffer, n, &m)?;
-    } else {
-        check(all_fill(&buffer))?;
+// A line, the messages that should wait on it, and how many places it should have beside them.
+#[derive(Drop)]
+pub(crate) struct Beside<L, P> {
+    line: L,
+    list: Vec<Vec<u8>>,
+    places: P,
+}
+
+impl<L: Line + Drop, P: Fn(&[Vec<u8>]) -> usize + Drop> Beside<L, P> {
+    // Beside a line that should be empty.
+    pub(crate) fn new(heap: Global, line: L, places: P) -> Beside<L, P> {
+        Beside {
+            line,
+            list: Vec::new(heap),
+            places,
+        }
     }
-    check(line.places() == room.places(list))?;
-    Ok(expected == 0)
+
+    fn check_places(&self) -> Result<(), Fail>
+        requires { (count : P) (list : _) → P.pre count list }
+    {
+        check(self.line.places() == (self.places)(&self.list))
+    }
+
+    // Puts a message on the line and into the list, if it should be accepted; tells whether it was.
+    pub(crate) fn put(&mut self, m: Vec<u8>) -> Result<bool, Fail>
+        requires { (count : P) (list : _) → P.pre count list }
+    {
+        self.check_places()?;
+        let expected = put_number((self.places)(&self.list), m.len());
+        let got = self.line.put(&m);
+        check(number_of(&got) == expected)?;
+        if expected == 0 {
+            self.list.push(m)?;
+        }
+        self.check_places()?;
+        Ok(expected == 0)
+    }
+
+    // Takes a message from the line and from the list into a buffer of some size.
+    pub(crate) fn take(&mut self, heap: Global, size: usize) -> Result<(), Fail>
+        requires { (count : P) (list : _) → P.pre count list }
+    {
+        let expected = take_number(self.list.len(), size);
+        let mut buffer = vec![in heap; FILL; size]?;
+        let got = self.line.take(&mut buffer);
+        check(number_of(&got) == expected)?;
+        if let Ok(n) = got {
+            check(!self.list.is_empty())?;
+            check_buffer(&buffer, n, &self.list.remove(0))?;
+        } else {
+            check(all_fill(&buffer))?;
+        }
+        self.check_places()
+    }
+
+    // The line again, on which nothing should wait.
+    pub(crate) fn emptied(self) -> Result<L, Fail> {
+        let Beside { line, list, .. } = self;
+        check(list.is_empty())?;
+        Ok(line)
+    }
 }

@@ -1,7 +1,7 @@
 // Every refusal at its boundary.
 use crate::beside::{FILL, check, message, number_of};
 use cell_line::CellLine;
-use line::{Line, LineRefusal};
+use line::{InArea, Line, LineRefusal};
 use packed_line::PackedLine;
 use std::alloc::Global;
 use std::test::Fail;
@@ -19,77 +19,66 @@ fn take_some<L: Line>(heap: Global, line: &mut L, size: usize) -> Result<(u8, us
     Ok((number_of(&got), got.unwrap_or(0)))
 }
 
-// Lengths of 4, 5, 272 and 273.
-fn put_edges<L: Line>(heap: Global, line: &mut L) -> Result<(), Fail> {
-    check(put_some(heap, line, 4)? == 61)?;
-    check(put_some(heap, line, 273)? == 61)?;
-    check(put_some(heap, line, 5)? == 0)?;
-    check(put_some(heap, line, 272)? == 0)?;
+// Puts messages of some lengths, of which each is accepted or refused with a number.
+fn put_each<L: Line>(heap: Global, line: &mut L, cases: &[(usize, u8)]) -> Result<(), Fail> {
+    for (n, number) in cases {
+        check(put_some(heap, line, *n)? == *number)?;
+    }
     Ok(())
 }
 
 // With messages of 5 and 272 octets waiting, buffers of 271 and 272.
 fn take_edges<L: Line>(heap: Global, line: &mut L) -> Result<(), Fail> {
-    check(take_some(heap, line, 271)? == (64, 0))?;
-    check(take_some(heap, line, 272)? == (0, 5))?;
-    check(take_some(heap, line, 271)? == (64, 0))?;
-    check(take_some(heap, line, 272)? == (0, 272))?;
+    for (size, taken) in [
+        (271, (64, 0)),
+        (272, (0, 5)),
+        (271, (64, 0)),
+        (272, (0, 272)),
+    ] {
+        check(take_some(heap, line, size)? == taken)?;
+    }
     Ok(())
 }
 
-// An empty line with so many places: nothing to take, and the edges of put and take.
-fn edges<L: Line>(heap: Global, line: &mut L, places: usize) -> Result<(), Fail> {
+// An empty line, in an area of so many octets and with so many places.
+fn empty<L: InArea + Drop>(heap: Global, octets: usize) -> Result<L, Fail> {
+    Ok(L::new(vec![in heap; 0u8; octets]?)?)
+}
+
+// An empty line in an area with so many places: nothing to take, and the edges of put and take.
+fn edges<L: InArea + Drop>(heap: Global, octets: usize, places: usize) -> Result<(), Fail> {
+    let mut line = empty::<L>(heap, octets)?;
     check(line.places() == places)?;
-    check(take_some(heap, line, 271)? == (63, 0))?;
-    put_edges(heap, line)?;
-    take_edges(heap, line)?;
-    check(take_some(heap, line, 272)? == (63, 0))?;
-    check(line.places() == places)?;
-    Ok(())
+    check(take_some(heap, &mut line, 271)? == (63, 0))?;
+    put_each(heap, &mut line, &[(4, 61), (273, 61), (5, 0), (272, 0)])?;
+    take_edges(heap, &mut line)?;
+    check(take_some(heap, &mut line, 272)? == (63, 0))?;
+    check(line.places() == places)
 }
 
 // Fills an empty line with messages of n octets and answers how many it took; a wrong length is named before a full line is.
-fn fill<L: Line>(heap: Global, line: &mut L, n: usize) -> Result<usize, Fail> {
+fn fill<L: InArea + Drop>(heap: Global, octets: usize, n: usize) -> Result<usize, Fail> {
+    let mut line = empty::<L>(heap, octets)?;
     let m = message(heap, n, 3)?;
-    let mut count = 0usize;
-    for _ in 0..20000 {
-        if line.put(&m).is_ok() {
-            count = count.saturating_add(1);
-        }
-    }
+    let count = (0..20000).filter(|_| line.put(&m).is_ok()).count();
     check(line.places() == 0)?;
-    check(put_some(heap, line, n)? == 62)?;
-    check(put_some(heap, line, 4)? == 61)?;
-    check(put_some(heap, line, 273)? == 61)?;
+    put_each(heap, &mut line, &[(n, 62), (4, 61), (273, 61)])?;
     Ok(count)
 }
 
-fn cells(heap: Global, octets: usize) -> Result<CellLine, Fail> {
-    match CellLine::new(vec![in heap; 0u8; octets]?) {
-        Ok(line) => Ok(line),
-        Err(_) => Err(Fail::new("the area is refused")),
-    }
-}
-
-fn packed(heap: Global, octets: usize) -> Result<PackedLine, Fail> {
-    match PackedLine::new(vec![in heap; 0u8; octets]?) {
-        Ok(line) => Ok(line),
-        Err(_) => Err(Fail::new("the area is refused")),
-    }
-}
-
-fn cell_edges_at(heap: Global, octets: usize, places: usize) -> Result<(), Fail> {
-    edges(heap, &mut cells(heap, octets)?, places)
-}
-
-fn packed_edges_at(heap: Global, octets: usize, places: usize) -> Result<(), Fail> {
-    edges(heap, &mut packed(heap, octets)?, places)
+// An area of 4,415 octets is refused and given back.
+fn small<L: InArea + Drop>(heap: Global) -> Result<(), Fail> {
+    let (refusal, area) = L::new(message(heap, 4415, 7)?)
+        .err()
+        .ok_or("an area of 4,415 octets is not refused")?;
+    check(refusal.number() == 60)?;
+    check(area == message(heap, 4415, 7)?)
 }
 
 #[test]
 fn cell_edges(rt: HostRuntime) -> Result<(), Fail> {
     for (octets, places) in [(4416, 16), (4657, 16), (4658, 17), (274000, 1000)] {
-        cell_edges_at(rt.alloc(), octets, places)?;
+        edges::<CellLine>(rt.alloc(), octets, places)?;
     }
     Ok(())
 }
@@ -103,7 +92,7 @@ fn packed_edges(rt: HostRuntime) -> Result<(), Fail> {
         (65536, 237),
         (100000, 237),
     ] {
-        packed_edges_at(rt.alloc(), octets, places)?;
+        edges::<PackedLine>(rt.alloc(), octets, places)?;
     }
     Ok(())
 }
@@ -112,10 +101,7 @@ fn packed_edges(rt: HostRuntime) -> Result<(), Fail> {
 #[test]
 fn cell_full(rt: HostRuntime) -> Result<(), Fail> {
     for (octets, n, count) in [(4416, 5, 16), (4416, 272, 16), (5480, 100, 20)] {
-        assert_eq!(rt;
-            fill(rt.alloc(), &mut cells(rt.alloc(), octets)?, n)?,
-            count
-        );
+        assert_eq!(rt; fill::<CellLine>(rt.alloc(), octets, n)?, count);
     }
     Ok(())
 }
@@ -123,36 +109,19 @@ fn cell_full(rt: HostRuntime) -> Result<(), Fail> {
 #[test]
 fn packed_full(rt: HostRuntime) -> Result<(), Fail> {
     for (octets, n, count) in [(4416, 272, 16), (4416, 5, 461), (100000, 272, 237)] {
-        assert_eq!(rt;
-            fill(rt.alloc(), &mut packed(rt.alloc(), octets)?, n)?,
-            count
-        );
+        assert_eq!(rt; fill::<PackedLine>(rt.alloc(), octets, n)?, count);
     }
     Ok(())
 }
 
 #[test]
 fn cell_small(rt: HostRuntime) -> Result<(), Fail> {
-    match CellLine::new(message(rt.alloc(), 4415, 7)?) {
-        Ok(_) => Err(Fail::new("an area of 4,415 octets is not refused")),
-        Err((refusal, area)) => {
-            assert_eq!(rt; refusal.number(), 60);
-            assert_eq!(rt; area, message(rt.alloc(), 4415, 7)?);
-            Ok(())
-        }
-    }
+    small::<CellLine>(rt.alloc())
 }
 
 #[test]
 fn packed_small(rt: HostRuntime) -> Result<(), Fail> {
-    match PackedLine::new(message(rt.alloc(), 4415, 7)?) {
-        Ok(_) => Err(Fail::new("an area of 4,415 octets is not refused")),
-        Err((refusal, area)) => {
-            assert_eq!(rt; refusal.number(), 60);
-            assert_eq!(rt; area, message(rt.alloc(), 4415, 7)?);
-            Ok(())
-        }
-    }
+    small::<PackedLine>(rt.alloc())
 }
 
 #[test]

@@ -1,7 +1,7 @@
 // The same scripts of puts and takes for every line, past several turns of its memory.
-use crate::beside::{Room, check, message, put_beside, take_beside};
+use crate::beside::{Beside, check, message};
 use cell_line::CellLine;
-use line::{Line, LineRefusal};
+use line::InArea;
 use packed_line::PackedLine;
 use std::alloc::Global;
 use std::test::Fail;
@@ -25,9 +25,17 @@ fn puts_now(i: u32, x: u32) -> bool {
     (x >> 24) % 8 < most
 }
 
-// Runs a script on a line that should be empty, beside a plain list, and then takes all that waits. Answers how many messages were accepted.
-fn drive<L: Line>(heap: Global, line: &mut L, room: Room, script: Script) -> Result<usize, Fail> {
-    let mut list = Vec::new(heap);
+// Runs a script on an empty line in an area of so many octets, beside a plain list, and then takes all that waits. Answers how many messages were accepted.
+fn run<L: InArea + Drop, P: Fn(&[Vec<u8>]) -> usize + Drop>(
+    heap: Global,
+    octets: usize,
+    places: P,
+    script: Script,
+) -> Result<usize, Fail>
+    requires { (count : P) (list : _) → P.pre count list }
+{
+    let line = L::new(vec![in heap; 0xA5u8; octets]?)?;
+    let mut beside = Beside::new(heap, line, places);
     let mut accepted = 0usize;
     let mut x = script.seed;
     for i in 0..script.steps {
@@ -36,18 +44,17 @@ fn drive<L: Line>(heap: Global, line: &mut L, room: Room, script: Script) -> Res
             let n = script
                 .least
                 .saturating_add(((x >> 8) % script.spread.max(1)) as usize);
-            let m = message(heap, n, (x >> 24) as u8)?;
-            if put_beside(line, room, &mut list, m)? {
+            if beside.put(message(heap, n, (x >> 24) as u8)?)? {
                 accepted = accepted.saturating_add(1);
             }
         } else {
-            take_beside(heap, line, room, &mut list, 290)?;
+            beside.take(heap, 290)?;
         }
     }
     for _ in 0..accepted {
-        take_beside(heap, line, room, &mut list, 272)?;
+        beside.take(heap, 272)?;
     }
-    check(list.len() == 0)?;
+    check(beside.emptied()?.close().len() == octets)?;
     Ok(accepted)
 }
 
@@ -72,35 +79,39 @@ const ANY: Script = Script {
     spread: 280,
 };
 
+// A line of cells has a place for each cell without a message.
 fn cell_run(heap: Global, octets: usize, script: Script) -> Result<usize, Fail> {
-    let area = vec![in heap; 0xA5u8; octets]?;
-    match CellLine::new(area) {
-        Ok(mut line) => {
-            let accepted = drive(heap, &mut line, Room::Cells(octets / 274), script)?;
-            check(line.close().len() == octets)?;
-            Ok(accepted)
-        }
-        Err(_) => Err(Fail::new("the area is refused")),
-    }
+    run::<CellLine, _>(
+        heap,
+        octets,
+        |list: &[Vec<u8>]| (octets / 274).saturating_sub(list.len()),
+        script,
+    )
 }
 
+// The octets that messages use on a packed line: their own, and four for each.
+fn used(list: &[Vec<u8>]) -> usize {
+    list.iter().fold(
+        0usize,
+        |sum, m| sum.saturating_add(m.len()).saturating_add(4),
+    )
+}
+
+// A packed line has a place for each 276 octets that messages do not use.
 fn packed_run(heap: Global, octets: usize, script: Script) -> Result<usize, Fail> {
-    let area = vec![in heap; 0xA5u8; octets]?;
-    match PackedLine::new(area) {
-        Ok(mut line) => {
-            let accepted = drive(heap, &mut line, Room::Octets(octets.min(65536)), script)?;
-            check(line.close().len() == octets)?;
-            Ok(accepted)
-        }
-        Err(_) => Err(Fail::new("the area is refused")),
-    }
+    run::<PackedLine, _>(
+        heap,
+        octets,
+        |list: &[Vec<u8>]| octets.min(65536).saturating_sub(used(list)) / 276,
+        script,
+    )
 }
 
 #[test]
 fn cell_least(rt: HostRuntime) -> Result<(), Fail> {
-    assert!(rt; cell_run(rt.alloc(), 4416, SHORT)? > 200);
-    assert!(rt; cell_run(rt.alloc(), 4416, LONG)? > 200);
-    assert!(rt; cell_run(rt.alloc(), 4416, ANY)? > 200);
+    for script in [SHORT, LONG, ANY] {
+        assert!(rt; cell_run(rt.alloc(), 4416, script)? > 200);
+    }
     Ok(())
 }
 
@@ -112,9 +123,9 @@ fn cell_odd(rt: HostRuntime) -> Result<(), Fail> {
 
 #[test]
 fn packed_least(rt: HostRuntime) -> Result<(), Fail> {
-    assert!(rt; packed_run(rt.alloc(), 4416, SHORT)? > 200);
-    assert!(rt; packed_run(rt.alloc(), 4416, LONG)? > 200);
-    assert!(rt; packed_run(rt.alloc(), 4416, ANY)? > 200);
+    for script in [SHORT, LONG, ANY] {
+        assert!(rt; packed_run(rt.alloc(), 4416, script)? > 200);
+    }
     Ok(())
 }
 

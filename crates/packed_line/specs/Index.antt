@@ -3,8 +3,10 @@ use Rattle.std.specs.Prelude.{◌≡◌, ℕ, zero, suc, ◌+◌, ◌-◌, ◌*�
 use Rattle.std.proofs.Common.{arith, add-one, sym, ap, ◌∙◌, inl, inr, below_more}
 use Rattle.std.proofs.Math.Seq.{paste}
 use Rattle.std.proofs.lemmas.List.{length-take, length-drop, get_or-take, get_or-drop}
-use Rattle.line.specs.Written.{over, two, two_octets, Holds}
-use Rattle.line.proofs.Writes.{over_length, over_in, over_out, two_over}
+use Rattle.octets.specs.Over.{over}
+use Rattle.line.specs.Written.{two, two_octets, Holds}
+use Rattle.octets.proofs.Over.{over_length}
+use Rattle.line.proofs.Writes.{over_in, over_out, two_over}
 use Rattle.packed_line.specs.Pack.{entry_start, entry_octets, offset_of, length_of, moved, lowered}
 
 -- the entries of one list are those of another one place on, their offsets lowered by n
@@ -37,7 +39,7 @@ unfolding lowered
 lowered_length xs total n zero h i = refl
 lowered_length xs total n (suc k) h i =
     let l = lowered_length xs total n k (omega arith) i in
-    over_length (lowered xs total n k) (entry_start total k) (entry_octets (offset_of xs total (k + 1) - n) (length_of xs total (k + 1))) (omega arith) ∙ l
+    over_length (lowered xs total n k) (entry_octets (offset_of xs total (k + 1) - n) (length_of xs total (k + 1))) (entry_start total k) (omega arith) ∙ l
 
 pub lowered_out : (xs : List ℕ) (total n k : ℕ) → 4 * (k + 1) ≤ total → total ≤ length xs → (i : ℕ) → (i < total - 4 * k) ⊎ (total ≤ i) → slice_index (lowered xs total n k) i ≡ slice_index xs i
 unfolding lowered
@@ -103,4 +105,4 @@ moved_out xs n used h i k l =
 pub moved_same : (xs : List ℕ) (n used : ℕ) → n ≤ used → used ≤ length xs → length (moved xs n used) ≡ length xs
 moved_same xs n used h i =
     let z = moved_length xs n used h i in
-    over_length xs 0 (slice_range xs n used) (omega arith)
+    over_length xs (slice_range xs n used) 0 (omega arith)

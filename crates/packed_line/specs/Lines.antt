@@ -5,9 +5,11 @@ use Rattle.std.specs.List.{range_with_len}
 use Rattle.std.proofs.lemmas.List.{take_all, length-take, length-drop}
 use Rattle.std.proofs.lemmas.Bool.{cases_order}
 use Rattle.std.proofs.lemmas.List.FromFn.{length-map-range_with_len, map-range_with_len_more}
-use Rattle.line.specs.Meaning.{fits, all_fit, least_octets, most_octets}
-use Rattle.line.specs.Written.{over, Holds, SameOut}
-use Rattle.line.proofs.Writes.{over_length, over_in, over_out, part_same}
+use Rattle.line.specs.Meaning.{fits, all_fit, least_octets, most_octets, oldest, others}
+use Rattle.octets.specs.Over.{over}
+use Rattle.line.specs.Written.{Holds, SameOut}
+use Rattle.octets.proofs.Over.{over_length}
+use Rattle.line.proofs.Writes.{over_in, over_out, part_same}
 use Rattle.line.proofs.Fitting.{map_same, all_fit_map, bounds_fit}
 use Rattle.packed_line.specs.Pack.{entry_start, entry_octets, offset_of, length_of, message_of, messages, octets_of, uses, Placed, Held, put_packed, take_packed, moved}
 use Rattle.packed_line.specs.Index.{Lowered, entry_off, entry_len, entry_same, lowered_length, lowered_out, lowered_is, moved_in, moved_out, moved_same}
@@ -51,6 +53,36 @@ pub pack_length : (a : List ℕ) (total count : ℕ) → length (messages a tota
 unfolding messages
 pack_length a total count = length-map-range_with_len (λ k. message_of a total k) 0 count
 
+-- a message has the length that its entry tells
+pub message_length : (a : List ℕ) (total used count : ℕ) → total ≤ length a → used + 4 * count ≤ total → octets_of a total count ≡ used → Placed a total count → (k : ℕ) → k < count → length (message_of a total k) ≡ length_of a total k
+message_length a total used count i r e p k l =
+    let u = oct_below a total k count l in
+    let q = p k l in
+    let l1 = length-take (length_of a total k) (drop (offset_of a total k) a) in
+    let l2 = length-drop (offset_of a total k) a in
+    omega arith
+
+-- what the messages use is what the line counts
+uses_push : (ms : List (List ℕ)) (m : List ℕ) → uses (ms ++ m ∷ []) ≡ uses ms + (length m + 4)
+uses_push [] m = omega arith
+uses_push (x ∷ xs) m = let i = uses_push xs m in omega arith
+
+uses_upto : (a : List ℕ) (total used count : ℕ) → total ≤ length a → used + 4 * count ≤ total → octets_of a total count ≡ used → Placed a total count → (n : ℕ) → n ≤ count → uses (messages a total n) ≡ octets_of a total n + 4 * n
+unfolding messages
+uses_upto a total used count h r e p zero l = let o = oct_none a total in omega arith
+uses_upto a total used count h r e p (suc n) l =
+    let i = uses_upto a total used count h r e p n (omega arith) in
+    let m = message_length a total used count h r e p n (omega arith) in
+    let o = oct_more a total n in
+    let f : ℕ → List ℕ = λ k. message_of a total k in
+    let s : map f (range_with_len 0 (suc n)) ≡ map f (range_with_len 0 n) ++ f n ∷ [] = ap (λ x. map f (range_with_len 0 x)) (sym (add-one n)) ∙ map-range_with_len_more f 0 n n (zero-add n) in
+    let z = uses_push (map f (range_with_len 0 n)) (f n) in
+    let d : octets_of a total (suc n) ≡ octets_of a total (n + 1) = ap (octets_of a total) (sym (add-one n)) in
+    ap uses s ∙ omega arith
+
+pub uses_is : (a : List ℕ) (total used count : ℕ) → total ≤ length a → used + 4 * count ≤ total → octets_of a total count ≡ used → Placed a total count → uses (messages a total count) ≡ used + 4 * count
+uses_is a total used count h r e p = let u = uses_upto a total used count h r e p count (omega arith) in omega arith
+
 -- what a put finds
 pub record Put (a m : List ℕ) (total used count : ℕ) : Type 0 where
   pub inside : total ≤ length a
@@ -66,8 +98,8 @@ put_size : (a m : List ℕ) (total used count : ℕ) → Put a m total used coun
 put_size a m total used count p =
     let i = p.inside in
     let r = p.room in
-    let l = over_length a used m (omega arith) in
-    (l, over_length (over a used m) (entry_start total count) (entry_octets used (length m)) (omega arith) ∙ l)
+    let l = over_length a m used (omega arith) in
+    (l, over_length (over a used m) (entry_octets used (length m)) (entry_start total count) (omega arith) ∙ l)
 
 put_entry : (a m : List ℕ) (total used count : ℕ) → Put a m total used count → (offset_of (put_packed a total used count m) total count ≡ used) × (length_of (put_packed a total used count m) total count ≡ length m)
 put_entry a m total used count p =
@@ -159,6 +191,28 @@ held_put a m total used count p =
     (λ k l. ap fits (put_same a m total used count p k l).1 ∙ p.held k l)
     (ap fits (put_entry a m total used count p).1 ∙ bounds_fit (length m) p.least p.most)
 
+-- what a put leaves in an area
+pub record Grown (a b m : List ℕ) (total used count : ℕ) : Type 0 where
+  pub after : messages b total (count + 1) ≡ messages a total count ++ m ∷ []
+  pub spent : uses (messages b total (count + 1)) ≡ used + length m + 4 * (count + 1)
+  pub ends : octets_of b total (count + 1) ≡ used + length m
+  pub placed : Placed b total (count + 1)
+  pub held : Held b total (count + 1)
+
+pub grown : (a b m : List ℕ) (total used count : ℕ) → Put a m total used count → b ≡ put_packed a total used count m → Grown a b m total used count
+grown a b m total used count p w =
+    let i = p.inside in
+    let z = (put_size a m total used count p).1 in
+    let e = ends_put a m total used count p in
+    let q = placed_put a m total used count p in
+    subst (λ (x : List ℕ). Grown a x m total used count) (sym w) (record {
+      after = pack_put a m total used count p;
+      spent = uses_is (put_packed a total used count m) total (used + length m) (count + 1) (omega arith) p.room e q;
+      ends = e;
+      placed = q;
+      held = held_put a m total used count p;
+    })
+
 -- what a take finds
 pub record Took (a : List ℕ) (total used count n : ℕ) : Type 0 where
   pub inside : total ≤ length a
@@ -180,6 +234,11 @@ pub oldest_in : (a : List ℕ) (total count : ℕ) → 0 < count → Placed a to
 oldest_in a total count h p =
     let u = oct_below a total 0 count h in
     (p 0 h ∙ oct_none a total, omega arith)
+
+pub oldest_within : (a : List ℕ) (total count : ℕ) → 0 < count → Placed a total count → offset_of a total 0 + length_of a total 0 ≤ octets_of a total count
+oldest_within a total count h p =
+    let o = oldest_in a total count h p in
+    omega arith
 
 took_within : (a : List ℕ) (total used count n : ℕ) → Took a total used count n → n ≤ used
 took_within a total used count n t =
@@ -246,6 +305,12 @@ unfolding messages
 pack_first a total zero h = absurd (omega arith)
 pack_first a total (suc q) h = ap (λ x. message_of a total 0 ∷ map (λ k. message_of a total k) (range_with_len (0 + 1) x)) (omega arith)
 
+pub oldest_is : (a : List ℕ) (total count : ℕ) → 0 < count → oldest (messages a total count) ≡ message_of a total 0
+oldest_is a total count h = ap oldest (pack_first a total count h)
+
+pub oldest_length : (a : List ℕ) (total used count : ℕ) → total ≤ length a → used + 4 * count ≤ total → octets_of a total count ≡ used → Placed a total count → 0 < count → length (oldest (messages a total count)) ≡ length_of a total 0
+oldest_length a total used count i r e p h = ap length (oldest_is a total count h) ∙ message_length a total used count i r e p 0 h
+
 pub pack_take : (a : List ℕ) (total used count n : ℕ) → Took a total used count n → messages a total count ≡ message_of a total 0 ∷ messages (take_packed a total used count n) total (count - 1)
 unfolding messages
 pack_take a total used count n t =
@@ -274,38 +339,33 @@ placed_take a total used count n t k l =
 pub held_take : (a : List ℕ) (total used count n : ℕ) → Took a total used count n → Held (take_packed a total used count n) total (count - 1)
 held_take a total used count n t k l = ap fits (took_lowered a total used count n t k l).1 ∙ t.held (k + 1) (omega arith)
 
--- a message has the length that its entry tells
-pub message_length : (a : List ℕ) (total used count : ℕ) → total ≤ length a → used + 4 * count ≤ total → octets_of a total count ≡ used → Placed a total count → (k : ℕ) → k < count → length (message_of a total k) ≡ length_of a total k
-message_length a total used count i r e p k l =
-    let u = oct_below a total k count l in
-    let q = p k l in
-    let l1 = length-take (length_of a total k) (drop (offset_of a total k) a) in
-    let l2 = length-drop (offset_of a total k) a in
-    omega arith
-
 pub pack_fits : (a : List ℕ) (total used count : ℕ) → total ≤ length a → used + 4 * count ≤ total → octets_of a total count ≡ used → Placed a total count → Held a total count → all_fit (messages a total count) ≡ true
 unfolding messages
 pack_fits a total used count i r e p h =
     all_fit_map (λ k. message_of a total k) 0 count
     (λ k l. ap fits (message_length a total used count i r e p (0 + k) (omega arith)) ∙ h (0 + k) (omega arith))
 
--- what the messages use is what the line counts
-uses_push : (ms : List (List ℕ)) (m : List ℕ) → uses (ms ++ m ∷ []) ≡ uses ms + (length m + 4)
-uses_push [] m = omega arith
-uses_push (x ∷ xs) m = let i = uses_push xs m in omega arith
+-- what a take leaves in an area
+pub record Shrunk (a b : List ℕ) (total used count n : ℕ) : Type 0 where
+  pub after : messages b total (count - 1) ≡ others (messages a total count)
+  pub spent : uses (messages b total (count - 1)) ≡ used - n + 4 * (count - 1)
+  pub ends : octets_of b total (count - 1) ≡ used - n
+  pub placed : Placed b total (count - 1)
+  pub held : Held b total (count - 1)
 
-uses_upto : (a : List ℕ) (total used count : ℕ) → total ≤ length a → used + 4 * count ≤ total → octets_of a total count ≡ used → Placed a total count → (n : ℕ) → n ≤ count → uses (messages a total n) ≡ octets_of a total n + 4 * n
-unfolding messages
-uses_upto a total used count h r e p zero l = let o = oct_none a total in omega arith
-uses_upto a total used count h r e p (suc n) l =
-    let i = uses_upto a total used count h r e p n (omega arith) in
-    let m = message_length a total used count h r e p n (omega arith) in
-    let o = oct_more a total n in
-    let f : ℕ → List ℕ = λ k. message_of a total k in
-    let s : map f (range_with_len 0 (suc n)) ≡ map f (range_with_len 0 n) ++ f n ∷ [] = ap (λ x. map f (range_with_len 0 x)) (sym (add-one n)) ∙ map-range_with_len_more f 0 n n (zero-add n) in
-    let z = uses_push (map f (range_with_len 0 n)) (f n) in
-    let d : octets_of a total (suc n) ≡ octets_of a total (n + 1) = ap (octets_of a total) (sym (add-one n)) in
-    ap uses s ∙ omega arith
-
-pub uses_is : (a : List ℕ) (total used count : ℕ) → total ≤ length a → used + 4 * count ≤ total → octets_of a total count ≡ used → Placed a total count → uses (messages a total count) ≡ used + 4 * count
-uses_is a total used count h r e p = let u = uses_upto a total used count h r e p count (omega arith) in omega arith
+pub shrunk : (a b : List ℕ) (total used count n : ℕ) → Took a total used count n → b ≡ take_packed a total used count n → Shrunk a b total used count n
+shrunk a b total used count n t w =
+    let i = t.inside in
+    let r = t.room in
+    let s = t.some in
+    let l = took_within a total used count n t in
+    let z = (took_size a total used count n t).1 in
+    let e = ends_take a total used count n t in
+    let q = placed_take a total used count n t in
+    subst (λ (x : List ℕ). Shrunk a x total used count n) (sym w) (record {
+      after = sym (ap others (pack_take a total used count n t));
+      spent = uses_is (take_packed a total used count n) total (used - n) (count - 1) (omega arith) (omega arith) e q;
+      ends = e;
+      placed = q;
+      held = held_take a total used count n t;
+    })

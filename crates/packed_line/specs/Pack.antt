@@ -2,7 +2,8 @@
 use Rattle.std.specs.Prelude.{◌≡◌, ℕ, zero, suc, ◌+◌, ◌-◌, ◌*◌, ◌/◌, ◌<◌, true, List, [], ◌∷◌, ◌++◌, map, length, take, drop}
 use Rattle.std.specs.List.{range_with_len}
 use Rattle.line.specs.Meaning.{fits}
-use Rattle.line.specs.Written.{over, two, two_octets}
+use Rattle.octets.specs.Over.{over}
+use Rattle.line.specs.Written.{two, two_octets}
 
 -- where entry k of the index begins, in an area of total octets
 abbrev pub entry_start : ℕ → ℕ → ℕ

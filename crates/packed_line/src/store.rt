@@ -1,14 +1,17 @@
 // The octets of a packed line.
 ghost use Rattle.std.specs.Prelude.{◌≡◌, ℕ, ◌+◌, ◌-◌, ◌*◌, ◌/◌, ◌<◌, ◌≤◌, List, [], ◌∷◌, ◌++◌, length, take, drop};
-ghost use Rattle.line.specs.Written.{over, two, two_octets};
+ghost use Rattle.octets.specs.Over.{over};
+ghost use Rattle.line.specs.Written.{two, two_octets};
 ghost use Rattle.packed_line.specs.Pack.{entry_octets, entry_start, length_of, lowered, message_of, offset_of, put_packed, take_packed};
 
-use line::octets::{read_two, write_octets, write_two};
+use line::pair::{read_two, write_two};
+use octets::put;
 
 // The octets of an entry of the index.
 pub(crate) const ENTRY: usize = 4;
 
 // Writes an entry of the index at a place.
+#[tactic(auto, using(octets::proofs::Over::over_more))]
 fn write_entry(area: &mut [u8], at: usize, off: usize, len: usize)
     requires { (at + 4 ≤ length area.old) × ((off < 65536) × (len < 65536)) }
     ensures { area.new ≡ over area.old at (entry_octets off len) }
@@ -17,31 +20,13 @@ fn write_entry(area: &mut [u8], at: usize, off: usize, len: usize)
     write_two(area, at + 2, len);
 }
 
-// Writes a message behind the others, and its entry.
-pub(crate) fn write_message(
-    area: &mut [u8],
-    total: usize,
-    used: usize,
-    count: usize,
-    message: &[u8],
-)
-    requires { (used + length message.now + 4 * (count + 1) ≤ total) × ((total ≤ length area.old) × (total ≤ 65536)) }
-    ensures { area.new ≡ put_packed area.old total used count message.now }
+// Writes a message at a place, and its entry at another.
+pub(crate) fn write_message(area: &mut [u8], at: usize, entry: usize, message: &[u8])
+    requires { (at + length message.now ≤ entry) × ((entry + 4 ≤ length area.old) × (entry < 65536)) }
+    ensures { area.new ≡ over (over area.old at message.now) entry (entry_octets at (length message.now)) }
 {
-    write_octets(area, used, message);
-    write_entry(area, total - ENTRY * (count + 1), used, message.len());
-}
-
-// Copies the oldest message to the front of a buffer.
-pub(crate) fn read_message(area: &[u8], total: usize, buffer: &mut [u8]) -> usize
-    requires { (4 ≤ total) × ((total ≤ length area.now) × ((offset_of area.now total 0 + length_of area.now total 0 ≤ length area.now) × (length_of area.now total 0 ≤ length buffer.old))) }
-    ensures len { result ≡ length_of area.now total 0 }
-    ensures octets { buffer.new ≡ take result (drop (offset_of area.now total 0) area.now) ++ drop result buffer.old }
-{
-    let at = read_two(area, total - ENTRY);
-    let n = read_two(area, total - ENTRY + 2);
-    buffer[0..n].copy_from_slice(&area[at..at + n]);
-    n
+    put(area, at, message);
+    write_entry(area, entry, at, message.len());
 }
 
 // Moves entry k + 1 to entry k, its offset lowered by n.

@@ -1,5 +1,5 @@
 use Rattle.std.proofs.Common.{◌≡◌, ◌+◌, ◌-◌, sym, ap, ◌∙◌, arith}
-use Rattle.line.specs.Written.{over}
+use Rattle.octets.specs.Over.{over}
 use Rattle.packed_line.specs.Pack.{entry_start, entry_octets, offset_of, length_of, lowered}
 use Rattle.packed_line.specs.Index.{lowered_next, lowered_more, lowered_none}
 use Rattle.packed_line.proofs.store.lower_index.Goals as goal
