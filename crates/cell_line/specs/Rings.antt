@@ -120,11 +120,13 @@ held_wrote a m cells head count p =
     (λ k l. ap fits (wrote_cell a m cells head count p k l).0 ∙ p.held k l)
     (ap fits (wrote_two a m cells head count p) ∙ bounds_fit (length m) p.least p.most)
 
-pub ring_put : (a b m : List ℕ) (cells head count : ℕ) → cell_octets * cells ≤ length a → head < cells → count < cells → least_octets ≤ length m → length m ≤ most_octets → Held a cells head count → b ≡ wrote a cells head count m → messages b cells head (count + 1) ≡ messages a cells head count ++ m ∷ []
-ring_put a b m cells head count i h r l u held w = ap (λ z. messages z cells head (count + 1)) w ∙ ring_wrote a m cells head count (record { inside = i; headin = h; room = r; least = l; most = u; held = held })
+-- what a put leaves in an area
+pub record Kept (a b m : List ℕ) (cells head count : ℕ) : Type 0 where
+  pub after : messages b cells head (count + 1) ≡ messages a cells head count ++ m ∷ []
+  pub held : Held b cells head (count + 1)
 
-pub held_put : (a b m : List ℕ) (cells head count : ℕ) → cell_octets * cells ≤ length a → head < cells → count < cells → least_octets ≤ length m → length m ≤ most_octets → Held a cells head count → b ≡ wrote a cells head count m → Held b cells head (count + 1)
-held_put a b m cells head count i h r l u held w = subst (λ (z : List ℕ). Held z cells head (count + 1)) (sym w) (held_wrote a m cells head count (record { inside = i; headin = h; room = r; least = l; most = u; held = held }))
+pub kept : (a b m : List ℕ) (cells head count : ℕ) → Put a m cells head count → b ≡ wrote a cells head count m → Kept a b m cells head count
+kept a b m cells head count p w = subst (λ (z : List ℕ). Kept a z m cells head count) (sym w) (record { after = ring_wrote a m cells head count p; held = held_wrote a m cells head count p })
 
 -- the oldest message taken
 pub ring_take : (a : List ℕ) (cells head count : ℕ) → head < cells → count ≤ cells → 0 < count → messages a cells head count ≡ cell_message a (cell_octets * head) ∷ messages a cells (wrap cells head 1) (count - 1)
@@ -147,14 +149,7 @@ others_are a cells head count h u p = sym (ap others (ring_take a cells head cou
 pub held_take : (a : List ℕ) (cells head next count : ℕ) → next ≡ wrap cells head 1 → head < cells → count ≤ cells → 0 < count → Held a cells head count → Held a cells next (count - 1)
 held_take a cells head next count e h u p held k l = ap (λ (x : ℕ). fits (two a (cell_octets * x))) (ap (λ (x : ℕ). wrap cells x k) e ∙ wrap_next cells head k h (omega arith)) ∙ held (k + 1) (omega arith)
 
-pub held_oldest : (a : List ℕ) (cells head count : ℕ) → head < cells → 0 < count → Held a cells head count → (least_octets ≤ two a (cell_octets * head)) × (two a (cell_octets * head) ≤ most_octets)
-held_oldest a cells head count h p held = fits_bounds (two a (cell_octets * head)) (ap (λ (x : ℕ). fits (two a (cell_octets * x))) (sym (wrap_zero cells head h)) ∙ held 0 p)
-
 -- how many messages there are, and that each has a length that it may have
-pub ring_none : (a : List ℕ) (cells head count : ℕ) → count ≡ 0 → messages a cells head count ≡ []
-unfolding messages
-ring_none a cells head count e = ap (λ n. map (λ k. cell_message a (cell_start cells head k)) (range_with_len 0 n)) e
-
 pub ring_length : (a : List ℕ) (cells head count : ℕ) → length (messages a cells head count) ≡ count
 unfolding messages
 ring_length a cells head count = length-map-range_with_len (λ k. cell_message a (cell_start cells head k)) 0 count

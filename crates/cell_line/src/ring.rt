@@ -1,10 +1,10 @@
-ghost use Rattle.std.specs.Prelude.{◌≡◌, ℕ, ◌+◌, ◌-◌, ◌*◌, ◌/◌, ◌<◌, ◌≤◌, true, false, List, [], ◌∷◌, ◌++◌, length, drop, is_ok, IfOk, vec_len, vec_capacity, MatchResult};
-ghost use Rattle.line.specs.Meaning.{fits, least_octets, most_octets, oldest, others, put_answer, put_after, take_answer, take_after, take_buffer};
+ghost use Rattle.std.specs.Prelude.{◌≡◌, ◌+◌, ◌-◌, ◌*◌, ◌/◌, ◌<◌, ◌≤◌, false, [], ◌++◌, length, is_ok, IfOk, vec_len, vec_capacity, MatchResult};
+ghost use Rattle.line.specs.Meaning.{least_octets, most_octets, oldest, put_answer, put_after, take_answer, take_after, take_buffer};
 ghost use Rattle.octets.specs.Over.{over};
 ghost use Rattle.line.specs.Written.{two, two_octets};
-ghost use Rattle.cell_line.specs.Ring.{Held, cell_message, cell_octets, cell_start, messages, wrap};
+ghost use Rattle.cell_line.specs.Ring.{cell_octets, messages, wrap};
 ghost use Rattle.cell_line.specs.State.{area_of, waiting_in, places_in, put_area, take_head};
-ghost use Rattle.std.proofs.Common.{arith, rules};
+ghost use Rattle.std.proofs.Common.{arith};
 ghost use Rattle.cell_line.specs.Rings.{ring_fits};
 
 use crate::cells::CellLine;

@@ -1,5 +1,5 @@
 // Lines in an area of memory that is theirs until they are closed. Code above that makes lines is written once for all of them.
-ghost use Rattle.std.specs.Prelude.{◌≡◌, ℕ, ◌*◌, ◌<◌, ◌≤◌, [], vec_len, MatchResult, Vec};
+ghost use Rattle.std.specs.Prelude.{◌≡◌, ℕ, ◌<◌, ◌≤◌, [], vec_len, MatchResult, Vec};
 ghost use Rattle.std.specs.Global.{Global};
 ghost use Rattle.line.specs.Meaning.{least_area};
 

@@ -1,5 +1,5 @@
 // Numbers in two octets of an area, low octet first. These functions are for the lines above, and ask that what they reach lies inside the area.
-ghost use Rattle.std.specs.Prelude.{◌≡◌, ℕ, ◌+◌, ◌*◌, ◌<◌, ◌≤◌, length};
+ghost use Rattle.std.specs.Prelude.{◌≡◌, ◌+◌, ◌<◌, ◌≤◌, length};
 ghost use Rattle.octets.specs.Over.{over};
 ghost use Rattle.line.specs.Written.{two, two_octets};
 

@@ -1,5 +1,5 @@
 // A line: messages wait on it, oldest first, and it tells how many places it has left. What any line means is said by the trait's ghost members, so code above is written and proved once for every line.
-ghost use Rattle.std.specs.Prelude.{◌≡◌, ℕ, ◌+◌, ◌-◌, ◌*◌, ◌<◌, ◌≤◌, true, false, List, [], ◌∷◌, ◌++◌, length, is_ok, IfOk};
+ghost use Rattle.std.specs.Prelude.{◌≡◌, ℕ, ◌+◌, ◌-◌, ◌<◌, ◌≤◌, true, false, List, [], length, is_ok, IfOk};
 ghost use Rattle.line.specs.Meaning.{all_fit, least_places, least_octets, most_octets, put_answer, put_after, take_answer, take_after, take_buffer};
 
 use crate::refusal::LineRefusal;

@@ -3,6 +3,7 @@ use Rattle.std.specs.Prelude.{◌≡◌, ℕ, zero, suc, ◌+◌, ◌-◌, ◌*�
 use Rattle.std.proofs.Common.{arith, zero-add, add-one, sym, ap, ◌∙◌, subst, inl, inr, below_more}
 use Rattle.std.specs.List.{range_with_len}
 use Rattle.std.proofs.lemmas.List.{take_all, length-take, length-drop}
+use Rattle.std.proofs.Math.Seq.{paste}
 use Rattle.std.proofs.lemmas.Bool.{cases_order}
 use Rattle.std.proofs.lemmas.List.FromFn.{length-map-range_with_len, map-range_with_len_more}
 use Rattle.line.specs.Meaning.{fits, all_fit, least_octets, most_octets, oldest, others}
@@ -11,8 +12,8 @@ use Rattle.line.specs.Written.{Holds, SameOut}
 use Rattle.octets.proofs.Over.{over_length}
 use Rattle.line.proofs.Writes.{over_in, over_out, part_same}
 use Rattle.line.proofs.Fitting.{map_same, all_fit_map, bounds_fit}
-use Rattle.packed_line.specs.Pack.{entry_start, entry_octets, offset_of, length_of, message_of, messages, octets_of, uses, Placed, Held, put_packed, take_packed, moved}
-use Rattle.packed_line.specs.Index.{Lowered, entry_off, entry_len, entry_same, lowered_length, lowered_out, lowered_is, moved_in, moved_out, moved_same}
+use Rattle.packed_line.specs.Pack.{entry_start, entry_octets, offset_of, length_of, message_of, messages, octets_of, uses, Placed, Held, put_packed, take_packed, moved, lowered}
+use Rattle.packed_line.specs.Index.{Lowered, entry_off, entry_len, entry_same, lowered_length, lowered_out, lowered_is, moved_paste, moved_in, moved_out, moved_same}
 
 -- octets of the first messages
 oct_none : (a : List ℕ) (total : ℕ) → octets_of a total 0 ≡ 0
@@ -223,13 +224,7 @@ pub record Took (a : List ℕ) (total used count n : ℕ) : Type 0 where
   pub held : Held a total count
   pub is : n ≡ length_of a total 0
 
--- the later messages stand behind the oldest
-pub above_oldest : (a : List ℕ) (total count : ℕ) → Placed a total count → (k : ℕ) → k < count - 1 → length_of a total 0 ≤ offset_of a total (k + 1)
-above_oldest a total count p k l =
-    let q = p (k + 1) (omega arith) in
-    let u = oct_below a total 0 (k + 1) (omega arith) in
-    omega arith
-
+-- the oldest stands at the front
 pub oldest_in : (a : List ℕ) (total count : ℕ) → 0 < count → Placed a total count → (offset_of a total 0 ≡ 0) × (length_of a total 0 ≤ octets_of a total count)
 oldest_in a total count h p =
     let u = oct_below a total 0 count h in
@@ -345,8 +340,13 @@ pack_fits a total used count i r e p h =
     all_fit_map (λ k. message_of a total k) 0 count
     (λ k l. ap fits (message_length a total used count i r e p (0 + k) (omega arith)) ∙ h (0 + k) (omega arith))
 
+-- the octets moved and the index lowered, one behind the other
+pub moved_lowered : (xs ys zs ws : List ℕ) (total used count n : ℕ) → n ≤ used → used ≤ length xs → ys ≡ paste xs 0 (drop n xs) (used - n) → zs ≡ ys → ws ≡ lowered zs total n (count - 1) → ws ≡ take_packed xs total used count n
+moved_lowered xs ys zs ws total used count n h i m e l = l ∙ ap (λ z. lowered z total n (count - 1)) (e ∙ (m ∙ moved_paste xs n used h i))
+
 -- what a take leaves in an area
 pub record Shrunk (a b : List ℕ) (total used count n : ℕ) : Type 0 where
+  pub area : b ≡ take_packed a total used count n
   pub after : messages b total (count - 1) ≡ others (messages a total count)
   pub spent : uses (messages b total (count - 1)) ≡ used - n + 4 * (count - 1)
   pub ends : octets_of b total (count - 1) ≡ used - n
@@ -363,6 +363,7 @@ shrunk a b total used count n t w =
     let e = ends_take a total used count n t in
     let q = placed_take a total used count n t in
     subst (λ (x : List ℕ). Shrunk a x total used count n) (sym w) (record {
+      area = refl;
       after = sym (ap others (pack_take a total used count n t));
       spent = uses_is (take_packed a total used count n) total (used - n) (count - 1) (omega arith) (omega arith) e q;
       ends = e;

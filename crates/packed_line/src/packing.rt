@@ -1,17 +1,18 @@
-ghost use Rattle.std.specs.Prelude.{◌≡◌, ℕ, ◌+◌, ◌-◌, ◌*◌, ◌/◌, ◌<◌, ◌≤◌, min, true, false, List, [], ◌∷◌, ◌++◌, length, drop, is_ok, IfOk, vec_len, vec_capacity, MatchResult};
-ghost use Rattle.line.specs.Meaning.{fits, least_octets, most_octets, oldest, others, put_answer, put_after, take_answer, take_after, take_buffer};
-ghost use Rattle.packed_line.specs.Pack.{Held, Placed, messages, octets_of, places_beside, put_packed, take_packed, uses};
+ghost use Rattle.std.specs.Prelude.{◌≡◌, ◌+◌, ◌-◌, ◌*◌, ◌/◌, ◌<◌, ◌≤◌, min, false, [], length, is_ok, IfOk, vec_len, vec_capacity, MatchResult};
+ghost use Rattle.line.specs.Meaning.{least_octets, most_octets, oldest, put_answer, put_after, take_answer, take_after, take_buffer};
+ghost use Rattle.packed_line.specs.Pack.{messages, octets_of, places_beside, uses};
 ghost use Rattle.packed_line.specs.State.{area_of, waiting_in, places_in, put_area, take_area};
-ghost use Rattle.std.proofs.Common.{arith, rules};
+ghost use Rattle.std.proofs.Common.{arith};
 ghost use Rattle.packed_line.specs.Lines.{pack_fits};
 
 use crate::packed::PackedLine;
-use crate::store::{ENTRY, drop_message, write_message};
+use crate::store::{ENTRY, lower_index, write_entry};
 use line::area::{AREA_LEAST, InArea};
 use line::checks::{may_put, may_take};
 use line::pair::read_two;
 use line::queue::Line;
 use line::refusal::LineRefusal;
+use octets::put;
 
 // The octets of an area that a line uses at most: every offset has two octets.
 const AREA_MOST: usize = 65536;
@@ -57,7 +58,8 @@ impl Line for PackedLine {
     {
         may_put(self.places(), message.len())?;
         let entry = self.total - ENTRY * (self.count + 1);
-        write_message(&mut self.area, self.used, entry, message);
+        put(&mut self.area, self.used, message);
+        write_entry(&mut self.area, entry, self.used, message.len());
         self.used += message.len();
         self.count += 1;
         Ok(())
@@ -78,7 +80,8 @@ impl Line for PackedLine {
         let message = self.oldest();
         let n = message.len();
         buffer[..n].copy_from_slice(message);
-        drop_message(&mut self.area, self.total, self.used, self.count, n);
+        self.area.copy_within(n..self.used, 0);
+        lower_index(&mut self.area, self.total, self.count, n);
         self.used -= n;
         self.count -= 1;
         Ok(n)

@@ -1,4 +1,4 @@
-use Rattle.std.proofs.Common.{◌≡◌, ◌+◌, ◌-◌, sym, ap, ◌∙◌, arith}
+use Rattle.std.proofs.Common.{◌+◌, ◌-◌, sym, ap, ◌∙◌, arith}
 use Rattle.octets.specs.Over.{over}
 use Rattle.packed_line.specs.Pack.{entry_start, entry_octets, offset_of, length_of, lowered}
 use Rattle.packed_line.specs.Index.{lowered_next, lowered_more, lowered_none}
@@ -6,14 +6,6 @@ use Rattle.packed_line.proofs.store.lower_index.Goals as goal
 
 pub loop-k-init : goal.loop-k-init
 loop-k-init c = sym (lowered_none c.args.area.now c.args.total c.args.n)
-
-pub move_entry-requires : goal.move_entry-requires
-move_entry-requires c =
-    let k = c.loop-k.k in
-    let s = (lowered_next c.args.area.now c.args.total c.args.n k (omega arith) (omega arith)).0 in
-    let e : offset_of c.loop-k.area c.args.total (k + 1) ≡ offset_of c.args.area.now c.args.total (k + 1) = ap (λ xs. offset_of xs c.args.total (k + 1)) c.loop-k.invariant ∙ s in
-    let a = c.requires.above k c.loop-k-test.true in
-    (omega arith, (omega arith, omega (arith, a, e)))
 
 pub loop-k-preserved : goal.loop-k-preserved
 loop-k-preserved c =
