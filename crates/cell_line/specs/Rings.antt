@@ -104,9 +104,9 @@ wrote_cell a m cells head count p k l =
     (start_in cells head k (length a) p.inside p.headin (omega arith))
     (fits_bounds (two a (cell_start cells head k)) (p.held k l)).1
 
-ring_wrote : (a m : List ℕ) (cells head count : ℕ) → Put a m cells head count → messages (wrote a cells head count m) cells head (count + 1) ≡ messages a cells head count ++ m ∷ []
+pub ring_put : (a m : List ℕ) (cells head count : ℕ) → Put a m cells head count → messages (wrote a cells head count m) cells head (count + 1) ≡ messages a cells head count ++ m ∷ []
 unfolding messages
-ring_wrote a m cells head count p =
+ring_put a m cells head count p =
     let f : ℕ → List ℕ = λ k. cell_message a (cell_start cells head k) in
     let g : ℕ → List ℕ = λ k. cell_message (wrote a cells head count m) (cell_start cells head k) in
     let agree : (k : ℕ) → k < count → g (0 + k) ≡ f (0 + k) = λ k l. ap g (zero-add k) ∙ ((wrote_cell a m cells head count p k l).1 ∙ ap f (sym (zero-add k))) in
@@ -114,8 +114,8 @@ ring_wrote a m cells head count p =
     ∙ (ap (λ xs. xs ++ g count ∷ []) (map_same g f 0 0 count agree)
     ∙ ap (λ x. map f (range_with_len 0 count) ++ x ∷ []) (wrote_message a m cells head count p))
 
-held_wrote : (a m : List ℕ) (cells head count : ℕ) → Put a m cells head count → Held (wrote a cells head count m) cells head (count + 1)
-held_wrote a m cells head count p =
+pub held_put : (a m : List ℕ) (cells head count : ℕ) → Put a m cells head count → Held (wrote a cells head count m) cells head (count + 1)
+held_put a m cells head count p =
     below_more (λ k. fits (two (wrote a cells head count m) (cell_start cells head k)) ≡ true) count
     (λ k l. ap fits (wrote_cell a m cells head count p k l).0 ∙ p.held k l)
     (ap fits (wrote_two a m cells head count p) ∙ bounds_fit (length m) p.least p.most)
@@ -126,7 +126,7 @@ pub record Kept (a b m : List ℕ) (cells head count : ℕ) : Type 0 where
   pub held : Held b cells head (count + 1)
 
 pub kept : (a b m : List ℕ) (cells head count : ℕ) → Put a m cells head count → b ≡ wrote a cells head count m → Kept a b m cells head count
-kept a b m cells head count p w = subst (λ (z : List ℕ). Kept a z m cells head count) (sym w) (record { after = ring_wrote a m cells head count p; held = held_wrote a m cells head count p })
+kept a b m cells head count p w = subst (λ (z : List ℕ). Kept a z m cells head count) (sym w) (record { after = ring_put a m cells head count p; held = held_put a m cells head count p })
 
 -- the oldest message taken
 pub ring_take : (a : List ℕ) (cells head count : ℕ) → head < cells → count ≤ cells → 0 < count → messages a cells head count ≡ cell_message a (cell_octets * head) ∷ messages a cells (wrap cells head 1) (count - 1)
@@ -146,8 +146,8 @@ oldest_is a cells head count h u p = ap oldest (ring_take a cells head count h u
 pub others_are : (a : List ℕ) (cells head count : ℕ) → head < cells → count ≤ cells → 0 < count → messages a cells (wrap cells head 1) (count - 1) ≡ others (messages a cells head count)
 others_are a cells head count h u p = sym (ap others (ring_take a cells head count h u p))
 
-pub held_take : (a : List ℕ) (cells head next count : ℕ) → next ≡ wrap cells head 1 → head < cells → count ≤ cells → 0 < count → Held a cells head count → Held a cells next (count - 1)
-held_take a cells head next count e h u p held k l = ap (λ (x : ℕ). fits (two a (cell_octets * x))) (ap (λ (x : ℕ). wrap cells x k) e ∙ wrap_next cells head k h (omega arith)) ∙ held (k + 1) (omega arith)
+pub held_take : (a : List ℕ) (cells head count : ℕ) → head < cells → count ≤ cells → 0 < count → Held a cells head count → Held a cells (wrap cells head 1) (count - 1)
+held_take a cells head count h u p held k l = ap (λ (x : ℕ). fits (two a (cell_octets * x))) (wrap_next cells head k h (omega arith)) ∙ held (k + 1) (omega arith)
 
 -- how many messages there are, and that each has a length that it may have
 pub ring_length : (a : List ℕ) (cells head count : ℕ) → length (messages a cells head count) ≡ count

@@ -53,6 +53,12 @@ lowered_out xs total n (suc k) h i j s =
 pub lowered_next : (xs : List ℕ) (total n k : ℕ) → 4 * (k + 2) ≤ total → total ≤ length xs → (offset_of (lowered xs total n k) total (k + 1) ≡ offset_of xs total (k + 1)) × (length_of (lowered xs total n k) total (k + 1) ≡ length_of xs total (k + 1))
 lowered_next xs total n k h i = entry_same (lowered xs total n k) xs total (k + 1) (λ j p q. lowered_out xs total n k (omega arith) i j (inl (omega arith)))
 
+pub lowered_next_offset : (xs : List ℕ) (total n k : ℕ) → 4 * (k + 2) ≤ total → total ≤ length xs → offset_of (lowered xs total n k) total (k + 1) ≡ offset_of xs total (k + 1)
+lowered_next_offset xs total n k h i = (lowered_next xs total n k h i).0
+
+pub lowered_next_length : (xs : List ℕ) (total n k : ℕ) → 4 * (k + 2) ≤ total → total ≤ length xs → length_of (lowered xs total n k) total (k + 1) ≡ length_of xs total (k + 1)
+lowered_next_length xs total n k h i = (lowered_next xs total n k h i).1
+
 pub lowered_more : (xs : List ℕ) (total n k : ℕ) → lowered xs total n (k + 1) ≡ over (lowered xs total n k) (entry_start total k) (entry_octets (offset_of xs total (k + 1) - n) (length_of xs total (k + 1)))
 unfolding lowered
 lowered_more xs total n k = ap (lowered xs total n) (add-one k)

@@ -30,6 +30,7 @@ fn move_entry(area: &mut [u8], total: usize, k: usize, n: usize)
 }
 
 // Moves every entry but the first one place up, its offset lowered by n.
+#[tactic(auto, using(crate::specs::Index::lowered_next_offset, crate::specs::Index::lowered_next_length, crate::specs::Index::lowered_more, crate::specs::Index::lowered_none))]
 pub(crate) fn lower_index(area: &mut [u8], total: usize, count: usize, n: usize)
     requires { (0 < count) × ((4 * count ≤ total) × (total ≤ length area.old)) }
     ensures { area.new ≡ lowered area.old total n (count - 1) }
