@@ -1,12 +1,12 @@
 -- What a put and a take leave of a ring of cells.
-use Rattle.std.specs.Prelude.{◌≡◌, ℕ, zero, suc, ◌+◌, ◌-◌, ◌*◌, ◌<◌, ◌≤◌, true, ◌≢◌, ◌⊎◌, List, [], ◌∷◌, ◌++◌, map, length, take, drop, slice_index, slice_index_or}
-use Rattle.std.proofs.Common.{arith, zero-add, sym, ap, ◌∙◌, subst, inl, inr, below_more}
+use Rattle.std.specs.Prelude.{◌≡◌, ℕ, zero, suc, ◌+◌, ◌-◌, ◌*◌, ◌<◌, ◌≤◌, true, ◌⊎◌, List, [], ◌∷◌, ◌++◌, map, length, take, drop, slice_index}
+use Rattle.std.proofs.Common.{arith, zero-add, sym, ap, ◌∙◌, subst, below_more}
 use Rattle.std.specs.List.{range_with_len}
-use Rattle.std.proofs.lemmas.Bool.{cases_order}
 use Rattle.std.proofs.lemmas.Bool.Decides.{nat_tests}
-use Rattle.std.proofs.lemmas.List.{take_all, length-take, length-drop}
+use Rattle.std.proofs.lemmas.List.{take_all}
 use Rattle.std.proofs.lemmas.List.FromFn.{length-map-range_with_len, map-range_with_len_more}
 use Rattle.line.specs.Meaning.{fits, all_fit, least_octets, most_octets, oldest, others}
+use Rattle.std.proofs.lemmas.Grind.{common_steps}
 use Rattle.octets.specs.Over.{over}
 use Rattle.line.specs.Written.{two, two_octets, SameOut}
 use Rattle.octets.proofs.Over.{over_length}
@@ -17,9 +17,6 @@ use Rattle.cell_line.specs.Ring.{cell_octets, wrap, cell_start, cell_message, me
 -- the cells of a ring are apart
 pub wrap_in : (cells head k : ℕ) → head < cells → k ≤ cells → wrap cells head k < cells
 wrap_in cells head k h l = grind (arith, nat_tests)
-
-wrap_ne : (cells head k n : ℕ) → head < cells → k < n → n < cells → wrap cells head k ≢ wrap cells head n
-wrap_ne cells head k n h l u e = grind (arith, nat_tests)
 
 wrap_zero : (cells head : ℕ) → head < cells → wrap cells head 0 ≡ head
 wrap_zero cells head h = grind (arith, nat_tests)
@@ -33,25 +30,12 @@ start_in cells head k n i h l = let w = wrap_in cells head k h l in omega arith
 abbrev Apart : ℕ → ℕ → Type 0
 Apart c at = (c + cell_octets ≤ at) ⊎ (at + cell_octets ≤ c)
 
-less : (x y : ℕ) → x < y → cell_octets * x + cell_octets ≤ cell_octets * y
-less x y p = omega arith
-
 apart : (cells head k n : ℕ) → head < cells → k < n → n < cells → Apart (cell_start cells head k) (cell_start cells head n)
-apart cells head k n h l u = go (cases_order (wrap cells head k) (wrap cells head n))
-  where
-    go : (wrap cells head k ≡ wrap cells head n) ⊎ ((wrap cells head k < wrap cells head n) ⊎ (wrap cells head n < wrap cells head k)) → Apart (cell_start cells head k) (cell_start cells head n)
-    go (inl e) = absurd (wrap_ne cells head k n h l u e)
-    go (inr (inl p)) = inl (less (wrap cells head k) (wrap cells head n) p)
-    go (inr (inr p)) = inr (less (wrap cells head n) (wrap cells head k) p)
+apart cells head k n h l u = grind (arith, nat_tests)
 
 -- the cells that are not written stay
 cell_same : (a b : List ℕ) (at c : ℕ) → length b ≡ length a → SameOut b a at (at + cell_octets) → Apart c at → c + cell_octets ≤ length a → two a c ≤ most_octets → (two b c ≡ two a c) × (cell_message b c ≡ cell_message a c)
-cell_same a b at c el s side i le =
-    let out : (k : ℕ) → c ≤ k → k < c + cell_octets → slice_index b k ≡ slice_index_or a k 0 = λ k x y. s k (elim side [ inl p ↦ inl (omega arith) | inr p ↦ inr (omega arith) ]) in
-    let e1 = out c (omega arith) (omega arith) in
-    let e2 = out (c + 1) (omega arith) (omega arith) in
-    let e : two b c ≡ two a c = omega arith in
-    (e, ap (λ n. take n (drop (c + 2) b)) e ∙ part_same b a (c + 2) (c + 2) (two a c) (omega arith) (omega arith) (λ k l. out (c + 2 + k) (omega arith) (omega arith)))
+cell_same a b at c el s side i le = grind (arith, common_steps, part_same b a (c + 2) (c + 2) (two a c))
 
 -- the area after a message was written into the cell behind the last
 abbrev pub wrote : List ℕ → ℕ → ℕ → ℕ → List ℕ → List ℕ
@@ -67,17 +51,10 @@ pub record Put (a m : List ℕ) (cells head count : ℕ) : Type 0 where
   pub held : Held a cells head count
 
 wrote_length : (a m : List ℕ) (cells head count : ℕ) → Put a m cells head count → length (wrote a cells head count m) ≡ length a
-wrote_length a m cells head count p =
-    let i = start_in cells head count (length a) p.inside p.headin (let r = p.room in omega arith) in
-    let u = p.most in
-    over_length a (two_octets (length m) ++ m) (cell_start cells head count) (omega arith)
+wrote_length a m cells head count p = grind (arith, over_length, start_in cells head count (length a) p.inside p.headin, p.room, p.most)
 
 wrote_same : (a m : List ℕ) (cells head count : ℕ) → Put a m cells head count → SameOut (wrote a cells head count m) a (cell_start cells head count) (cell_start cells head count + cell_octets)
-wrote_same a m cells head count p k side =
-    let at = cell_start cells head count in
-    let i = start_in cells head count (length a) p.inside p.headin (let r = p.room in omega arith) in
-    let u = p.most in
-    over_out a at (two_octets (length m) ++ m) (omega arith) k (elim side [ inl l ↦ inl l | inr l ↦ inr (omega arith) ])
+wrote_same a m cells head count p k side = grind (arith, over_out, start_in cells head count (length a) p.inside p.headin, p.room, p.most)
 
 wrote_two : (a m : List ℕ) (cells head count : ℕ) → Put a m cells head count → two (wrote a cells head count m) (cell_start cells head count) ≡ length m
 wrote_two a m cells head count p =
@@ -147,7 +124,7 @@ pub others_are : (a : List ℕ) (cells head count : ℕ) → head < cells → co
 others_are a cells head count h u p = sym (ap others (ring_take a cells head count h u p))
 
 pub held_take : (a : List ℕ) (cells head count : ℕ) → head < cells → count ≤ cells → 0 < count → Held a cells head count → Held a cells (wrap cells head 1) (count - 1)
-held_take a cells head count h u p held k l = ap (λ (x : ℕ). fits (two a (cell_octets * x))) (wrap_next cells head k h (omega arith)) ∙ held (k + 1) (omega arith)
+held_take a cells head count h u p held k l = grind (arith, wrap_next cells head k h, held (k + 1))
 
 -- how many messages there are, and that each has a length that it may have
 pub ring_length : (a : List ℕ) (cells head count : ℕ) → length (messages a cells head count) ≡ count
@@ -155,16 +132,9 @@ unfolding messages
 ring_length a cells head count = length-map-range_with_len (λ k. cell_message a (cell_start cells head k)) 0 count
 
 pub message_length : (a : List ℕ) (at : ℕ) → at + cell_octets ≤ length a → two a at ≤ most_octets → length (cell_message a at) ≡ two a at
-message_length a at i u =
-    let l1 = length-take (two a at) (drop (at + 2) a) in
-    let l2 = length-drop (at + 2) a in
-    omega arith
+message_length a at i u = grind (arith, common_steps)
 
 pub ring_fits : (a : List ℕ) (cells head count : ℕ) → cell_octets * cells ≤ length a → head < cells → count ≤ cells → Held a cells head count → all_fit (messages a cells head count) ≡ true
 unfolding messages
 ring_fits a cells head count i h u held =
-    all_fit_map (λ k. cell_message a (cell_start cells head k)) 0 count
-    (λ k l.
-    let j = cell_start cells head (0 + k) in
-    let q = held (0 + k) (omega arith) in
-    ap fits (message_length a j (start_in cells head (0 + k) (length a) i h (omega arith)) (fits_bounds (two a j) q).1) ∙ q)
+    all_fit_map _ 0 count (λ k l. grind (arith, message_length, start_in cells head k (length a) i h, held k, fits_bounds))

@@ -1,8 +1,8 @@
 -- Entries of the index.
-use Rattle.std.specs.Prelude.{◌≡◌, ℕ, zero, suc, ◌+◌, ◌-◌, ◌*◌, ◌/◌, ◌%◌, ◌<◌, ◌≤◌, ◌⊎◌, List, ◌++◌, length, drop, slice_index, slice_index_or, slice_range, refl}
+use Rattle.std.specs.Prelude.{◌≡◌, ℕ, zero, suc, ◌+◌, ◌-◌, ◌*◌, ◌<◌, ◌≤◌, ◌⊎◌, List, ◌++◌, length, drop, slice_index, slice_range, refl}
 use Rattle.std.proofs.Common.{arith, add-one, sym, ap, ◌∙◌, inl, inr, below_more}
 use Rattle.std.proofs.Math.Seq.{paste}
-use Rattle.std.proofs.lemmas.List.{length-take, length-drop, get_or-take, get_or-drop}
+use Rattle.std.proofs.lemmas.Grind.{common_steps}
 use Rattle.octets.specs.Over.{over}
 use Rattle.line.specs.Written.{two, two_octets, Holds}
 use Rattle.octets.proofs.Over.{over_length}
@@ -19,35 +19,24 @@ entry_off xs at off len h = two_over xs at off (two_octets len) (omega arith)
 
 pub entry_len : (xs : List ℕ) (at off len : ℕ) → at + 4 ≤ length xs → two (over xs at (entry_octets off len)) (at + 2) ≡ len
 entry_len xs at off len h =
-    let zs = entry_octets off len in
-    let lo : slice_index_or (over xs at zs) (at + 2) 0 ≡ len % 256 = over_in xs at zs (omega arith) 2 (omega arith) in
-    let hi : slice_index_or (over xs at zs) (at + 2 + 1) 0 ≡ len / 256 = ap (λ j. slice_index (over xs at zs) j) (omega arith) ∙ over_in xs at zs (omega arith) 3 (omega arith) in
-    omega arith
+    let low = over_in xs at (entry_octets off len) (omega arith) 2 (omega arith) in
+    let high = over_in xs at (entry_octets off len) (omega arith) 3 (omega arith) in
+    grind arith
 
 -- an entry whose octets are the same
 pub entry_same : (a b : List ℕ) (total k : ℕ) → ((i : ℕ) → entry_start total k ≤ i → i < entry_start total k + 4 → slice_index a i ≡ slice_index b i) → (offset_of a total k ≡ offset_of b total k) × (length_of a total k ≡ length_of b total k)
-entry_same a b total k e =
-    let e0 = e (entry_start total k) (omega arith) (omega arith) in
-    let e1 = e (entry_start total k + 1) (omega arith) (omega arith) in
-    let e2 = e (entry_start total k + 2) (omega arith) (omega arith) in
-    let e3 = e (entry_start total k + 2 + 1) (omega arith) (omega arith) in
-    (omega arith, omega arith)
+entry_same a b total k e = grind (arith, e)
 
 -- what is outside the entries that were lowered stays
 pub lowered_length : (xs : List ℕ) (total n k : ℕ) → 4 * (k + 1) ≤ total → total ≤ length xs → length (lowered xs total n k) ≡ length xs
 unfolding lowered
 lowered_length xs total n zero h i = refl
-lowered_length xs total n (suc k) h i =
-    let l = lowered_length xs total n k (omega arith) i in
-    over_length (lowered xs total n k) (entry_octets (offset_of xs total (k + 1) - n) (length_of xs total (k + 1))) (entry_start total k) (omega arith) ∙ l
+lowered_length xs total n (suc k) h i = grind (arith, over_length, lowered_length xs total n k)
 
 pub lowered_out : (xs : List ℕ) (total n k : ℕ) → 4 * (k + 1) ≤ total → total ≤ length xs → (i : ℕ) → (i < total - 4 * k) ⊎ (total ≤ i) → slice_index (lowered xs total n k) i ≡ slice_index xs i
 unfolding lowered
 lowered_out xs total n zero h i j s = refl
-lowered_out xs total n (suc k) h i j s =
-    let l = lowered_length xs total n k (omega arith) i in
-    over_out (lowered xs total n k) (entry_start total k) (entry_octets (offset_of xs total (k + 1) - n) (length_of xs total (k + 1))) (omega arith) j (elim s [ inl p ↦ inl (omega arith) | inr p ↦ inr (omega arith) ])
-    ∙ lowered_out xs total n k (omega arith) i j (elim s [ inl p ↦ inl (omega arith) | inr p ↦ inr p ])
+lowered_out xs total n (suc k) h i j s = grind (arith, over_out, lowered_length xs total n k, lowered_out xs total n k)
 
 -- entry k + 1 is as it was once the first k are lowered
 pub lowered_next : (xs : List ℕ) (total n k : ℕ) → 4 * (k + 2) ≤ total → total ≤ length xs → (offset_of (lowered xs total n k) total (k + 1) ≡ offset_of xs total (k + 1)) × (length_of (lowered xs total n k) total (k + 1) ≡ length_of xs total (k + 1))
@@ -87,10 +76,7 @@ lowered_is xs total n (suc k) h i j l =
 
 -- the first octets moved to the front
 pub moved_length : (xs : List ℕ) (n used : ℕ) → n ≤ used → used ≤ length xs → length (slice_range xs n used) ≡ used - n
-moved_length xs n used h i =
-    let a = length-take (used - n) (drop n xs) in
-    let b = length-drop n xs in
-    omega arith
+moved_length xs n used h i = grind (arith, common_steps)
 
 -- as a copy within the area leaves it
 pub moved_paste : (xs : List ℕ) (n used : ℕ) → n ≤ used → used ≤ length xs → paste xs 0 (drop n xs) (used - n) ≡ moved xs n used
@@ -98,17 +84,10 @@ unfolding over
 moved_paste xs n used h i = ap (λ k. slice_range xs n used ++ drop (0 + k) xs) (sym (moved_length xs n used h i))
 
 pub moved_in : (xs : List ℕ) (n used : ℕ) → n ≤ used → used ≤ length xs → Holds (moved xs n used) 0 xs n (used - n)
-moved_in xs n used h i k l =
-    let z = moved_length xs n used h i in
-    over_in xs 0 (slice_range xs n used) (omega arith) k (omega arith)
-    ∙ (get_or-take (used - n) (drop n xs) k 0 l ∙ get_or-drop n xs k 0)
+moved_in xs n used h i k l = grind (arith, common_steps, moved_length xs n used h i, over_in xs 0 (slice_range xs n used) (omega arith) k)
 
 pub moved_out : (xs : List ℕ) (n used : ℕ) → n ≤ used → used ≤ length xs → (k : ℕ) → used - n ≤ k → slice_index (moved xs n used) k ≡ slice_index xs k
-moved_out xs n used h i k l =
-    let z = moved_length xs n used h i in
-    over_out xs 0 (slice_range xs n used) (omega arith) k (inr (omega arith))
+moved_out xs n used h i k l = grind (arith, over_out, moved_length xs n used h i)
 
 pub moved_same : (xs : List ℕ) (n used : ℕ) → n ≤ used → used ≤ length xs → length (moved xs n used) ≡ length xs
-moved_same xs n used h i =
-    let z = moved_length xs n used h i in
-    over_length xs (slice_range xs n used) 0 (omega arith)
+moved_same xs n used h i = grind (arith, over_length, moved_length xs n used h i)

@@ -1,18 +1,20 @@
 -- What a put and a take leave of the messages.
 use Rattle.std.specs.Prelude.{◌≡◌, ℕ, zero, suc, ◌+◌, ◌-◌, ◌*◌, ◌<◌, ◌≤◌, true, List, [], ◌∷◌, ◌++◌, map, length, take, drop, slice_index, refl}
-use Rattle.std.proofs.Common.{arith, zero-add, add-one, sym, ap, ◌∙◌, subst, inl, inr, below_more}
+use Rattle.std.proofs.Common.{arith, zero-add, add-one, sym, ap, ◌∙◌, subst, inl, inr}
 use Rattle.std.specs.List.{range_with_len}
-use Rattle.std.proofs.lemmas.List.{take_all, length-take, length-drop}
+use Rattle.std.proofs.lemmas.List.{take_all}
 use Rattle.std.proofs.Math.Seq.{paste}
 use Rattle.std.proofs.lemmas.Bool.{cases_order}
 use Rattle.std.proofs.lemmas.List.FromFn.{length-map-range_with_len, map-range_with_len_more}
 use Rattle.line.specs.Meaning.{fits, all_fit, least_octets, most_octets, oldest, others}
+use Rattle.std.proofs.lemmas.Grind.{common_steps}
+use Rattle.std.proofs.lemmas.Bool.Decides.{nat_tests}
 use Rattle.octets.specs.Over.{over}
 use Rattle.line.specs.Written.{Holds, SameOut}
 use Rattle.octets.proofs.Over.{over_length}
 use Rattle.line.proofs.Writes.{over_in, over_out, part_same}
-use Rattle.line.proofs.Fitting.{map_same, all_fit_map, bounds_fit}
-use Rattle.packed_line.specs.Pack.{entry_start, entry_octets, offset_of, length_of, message_of, messages, octets_of, uses, Placed, Held, put_packed, take_packed, moved, lowered}
+use Rattle.line.proofs.Fitting.{map_same, all_fit_map}
+use Rattle.packed_line.specs.Pack.{entry_start, offset_of, length_of, message_of, messages, octets_of, uses, Placed, Held, put_packed, take_packed, moved, lowered}
 use Rattle.packed_line.specs.Index.{Lowered, entry_off, entry_len, entry_same, lowered_length, lowered_out, lowered_is, moved_paste, moved_in, moved_out, moved_same}
 
 -- octets of the first messages
@@ -27,28 +29,17 @@ oct_more a total k = ap (octets_of a total) (add-one k)
 oct_below : (a : List ℕ) (total k count : ℕ) → k < count → octets_of a total k + length_of a total k ≤ octets_of a total count
 unfolding octets_of
 oct_below a total k zero h = absurd (omega arith)
-oct_below a total k (suc n) h =
-    elim (cases_order k n) [
-      | inl e ↦ subst (λ (x : ℕ). octets_of a total x + length_of a total x ≤ octets_of a total n + length_of a total n) (sym e) (omega arith)
-      | inr s ↦ elim s [ inl l ↦ (let i = oct_below a total k n l in omega arith) | inr l ↦ absurd (omega arith) ]
-    ]
+oct_below a total k (suc n) h = elim (cases_order k n) [ inl e ↦ grind arith | inr s ↦ grind (arith, oct_below a total k n) ]
 
 oct_same : (a b : List ℕ) (total k : ℕ) → ((j : ℕ) → j < k → length_of a total j ≡ length_of b total j) → octets_of a total k ≡ octets_of b total k
 unfolding octets_of
 oct_same a b total zero e = refl
-oct_same a b total (suc n) e =
-    let i = oct_same a b total n (λ j l. e j (omega arith)) in
-    let h = e n (omega arith) in
-    omega arith
+oct_same a b total (suc n) e = grind (arith, oct_same a b total n, e)
 
 oct_shift : (a b : List ℕ) (total k : ℕ) → ((j : ℕ) → j < k → length_of b total j ≡ length_of a total (j + 1)) → octets_of b total k + length_of a total 0 ≡ octets_of a total (k + 1)
 unfolding octets_of
-oct_shift a b total zero e = let o = oct_more a total 0 in omega arith
-oct_shift a b total (suc n) e =
-    let i = oct_shift a b total n (λ j l. e j (omega arith)) in
-    let h = e n (omega arith) in
-    let s : octets_of a total (suc n + 1) ≡ octets_of a total (n + 1) + length_of a total (n + 1) = ap (λ x. octets_of a total (x + 1)) (sym (add-one n)) ∙ oct_more a total (n + 1) in
-    omega arith
+oct_shift a b total zero e = grind (arith, oct_more)
+oct_shift a b total (suc n) e = grind (arith, oct_more, oct_shift a b total n, e)
 
 pub pack_length : (a : List ℕ) (total count : ℕ) → length (messages a total count) ≡ count
 unfolding messages
@@ -56,17 +47,12 @@ pack_length a total count = length-map-range_with_len (λ k. message_of a total 
 
 -- a message has the length that its entry tells
 pub message_length : (a : List ℕ) (total used count : ℕ) → total ≤ length a → used + 4 * count ≤ total → octets_of a total count ≡ used → Placed a total count → (k : ℕ) → k < count → length (message_of a total k) ≡ length_of a total k
-message_length a total used count i r e p k l =
-    let u = oct_below a total k count l in
-    let q = p k l in
-    let l1 = length-take (length_of a total k) (drop (offset_of a total k) a) in
-    let l2 = length-drop (offset_of a total k) a in
-    omega arith
+message_length a total used count i r e p k l = grind (arith, common_steps, oct_below a total k count l, p k l)
 
 -- what the messages use is what the line counts
 uses_push : (ms : List (List ℕ)) (m : List ℕ) → uses (ms ++ m ∷ []) ≡ uses ms + (length m + 4)
 uses_push [] m = omega arith
-uses_push (x ∷ xs) m = let i = uses_push xs m in omega arith
+uses_push (x ∷ xs) m = grind (arith, uses_push xs m)
 
 uses_upto : (a : List ℕ) (total used count : ℕ) → total ≤ length a → used + 4 * count ≤ total → octets_of a total count ≡ used → Placed a total count → (n : ℕ) → n ≤ count → uses (messages a total n) ≡ octets_of a total n + 4 * n
 unfolding messages
@@ -96,11 +82,7 @@ pub record Put (a m : List ℕ) (total used count : ℕ) : Type 0 where
 
 -- and what it leaves
 put_size : (a m : List ℕ) (total used count : ℕ) → Put a m total used count → (length (over a used m) ≡ length a) × (length (put_packed a total used count m) ≡ length a)
-put_size a m total used count p =
-    let i = p.inside in
-    let r = p.room in
-    let l = over_length a m used (omega arith) in
-    (l, over_length (over a used m) (entry_octets used (length m)) (entry_start total count) (omega arith) ∙ l)
+put_size a m total used count p = grind (arith, over_length, p.inside, p.room)
 
 put_entry : (a m : List ℕ) (total used count : ℕ) → Put a m total used count → (offset_of (put_packed a total used count m) total count ≡ used) × (length_of (put_packed a total used count m) total count ≡ length m)
 put_entry a m total used count p =
@@ -110,20 +92,10 @@ put_entry a m total used count p =
     (entry_off (over a used m) (entry_start total count) used (length m) (omega arith), entry_len (over a used m) (entry_start total count) used (length m) (omega arith))
 
 put_octets : (a m : List ℕ) (total used count : ℕ) → Put a m total used count → Holds (put_packed a total used count m) used m 0 (length m)
-put_octets a m total used count p k h =
-    let i = p.inside in
-    let r = p.room in
-    let l = (put_size a m total used count p).0 in
-    over_out (over a used m) (entry_start total count) (entry_octets used (length m)) (omega arith) (used + k) (inl (omega arith))
-    ∙ (over_in a used m (omega arith) k h ∙ ap (λ j. slice_index m j) (sym (zero-add k)))
+put_octets a m total used count p k h = grind (arith, over_out, over_in, over_length, p.inside, p.room)
 
 put_others : (a m : List ℕ) (total used count : ℕ) → Put a m total used count → SameOut (put_packed a total used count m) a used (total - 4 * count)
-put_others a m total used count p k side =
-    let i = p.inside in
-    let r = p.room in
-    let l = (put_size a m total used count p).0 in
-    over_out (over a used m) (entry_start total count) (entry_octets used (length m)) (omega arith) k (elim side [ inl q ↦ inl (omega arith) | inr q ↦ inr (omega arith) ])
-    ∙ over_out a used m (omega arith) k (elim side [ inl q ↦ inl q | inr q ↦ inr (omega arith) ])
+put_others a m total used count p k side = grind (arith, over_out, over_length, p.inside, p.room)
 
 put_same : (a m : List ℕ) (total used count : ℕ) → Put a m total used count → (k : ℕ) → k < count → (offset_of (put_packed a total used count m) total k ≡ offset_of a total k) × (length_of (put_packed a total used count m) total k ≡ length_of a total k)
 put_same a m total used count p k l =
@@ -135,19 +107,8 @@ put_oct a m total used count p k l = oct_same (put_packed a total used count m) 
 
 put_message : (a m : List ℕ) (total used count : ℕ) → Put a m total used count → (k : ℕ) → k < count → message_of (put_packed a total used count m) total k ≡ message_of a total k
 put_message a m total used count p k l =
-    let b = put_packed a total used count m in
-    let s = put_same a m total used count p k l in
-    let n = length_of a total k in
     let o = offset_of a total k in
-    let q = p.placed k l in
-    let u = oct_below a total k count l in
-    let r = p.room in
-    let z = (put_size a m total used count p).1 in
-    let i = p.inside in
-    let f = p.ends in
-    ap (λ x. take x (drop (offset_of b total k) b)) s.1
-    ∙ (ap (λ x. take n (drop x b)) s.0
-    ∙ part_same b a o o n (omega arith) (omega arith) (λ j h. put_others a m total used count p (o + j) (inl (omega arith))))
+    grind (arith, put_same a m total used count p k l, p.placed k l, oct_below a total k count l, p.room, (put_size a m total used count p).1, p.inside, p.ends, put_others a m total used count p, part_same (put_packed a total used count m) a o o (length_of a total k))
 
 put_last : (a m : List ℕ) (total used count : ℕ) → Put a m total used count → message_of (put_packed a total used count m) total count ≡ m
 put_last a m total used count p =
@@ -172,25 +133,13 @@ pack_put a m total used count p =
     ∙ ap (λ x. map f (range_with_len 0 count) ++ x ∷ []) (put_last a m total used count p))
 
 pub ends_put : (a m : List ℕ) (total used count : ℕ) → Put a m total used count → octets_of (put_packed a total used count m) total (count + 1) ≡ used + length m
-ends_put a m total used count p =
-    let o = oct_more (put_packed a total used count m) total count in
-    let s = put_oct a m total used count p count (omega arith) in
-    let e = p.ends in
-    let l = (put_entry a m total used count p).1 in
-    omega arith
+ends_put a m total used count p = grind (arith, oct_more, put_oct a m total used count p count, put_entry a m total used count p, p.ends)
 
 pub placed_put : (a m : List ℕ) (total used count : ℕ) → Put a m total used count → Placed (put_packed a total used count m) total (count + 1)
-placed_put a m total used count p =
-    let b = put_packed a total used count m in
-    below_more (λ k. offset_of b total k ≡ octets_of b total k) count
-    (λ k l. (put_same a m total used count p k l).0 ∙ (p.placed k l ∙ sym (put_oct a m total used count p k (omega arith))))
-    ((put_entry a m total used count p).0 ∙ sym (put_oct a m total used count p count (omega arith) ∙ p.ends))
+placed_put a m total used count p k l = grind (arith, put_same a m total used count p k, p.placed k, put_oct a m total used count p k, put_entry a m total used count p, p.ends)
 
 pub held_put : (a m : List ℕ) (total used count : ℕ) → Put a m total used count → Held (put_packed a total used count m) total (count + 1)
-held_put a m total used count p =
-    below_more (λ k. fits (length_of (put_packed a total used count m) total k) ≡ true) count
-    (λ k l. ap fits (put_same a m total used count p k l).1 ∙ p.held k l)
-    (ap fits (put_entry a m total used count p).1 ∙ bounds_fit (length m) p.least p.most)
+held_put a m total used count p k l = grind (arith, put_same a m total used count p k, p.held k, put_entry a m total used count p, p.least, p.most, nat_tests)
 
 -- what a put leaves in an area
 pub record Grown (a b m : List ℕ) (total used count : ℕ) : Type 0 where
@@ -236,11 +185,7 @@ oldest_within a total count h p =
     omega arith
 
 took_within : (a : List ℕ) (total used count n : ℕ) → Took a total used count n → n ≤ used
-took_within a total used count n t =
-    let o = oldest_in a total count t.some t.placed in
-    let f = t.ends in
-    let v = t.is in
-    omega arith
+took_within a total used count n t = grind (arith, oldest_in a total count t.some t.placed, t.ends, t.is)
 
 -- and what it leaves
 took_size : (a : List ℕ) (total used count n : ℕ) → Took a total used count n → (length (moved a n used) ≡ length a) × (length (take_packed a total used count n) ≡ length a)
@@ -324,21 +269,14 @@ ends_take a total used count n t =
     omega arith
 
 pub placed_take : (a : List ℕ) (total used count n : ℕ) → Took a total used count n → Placed (take_packed a total used count n) total (count - 1)
-placed_take a total used count n t k l =
-    let m = (took_lowered a total used count n t k l).0 in
-    let v = t.is in
-    let q = t.placed (k + 1) (omega arith) in
-    let w = took_oct a total used count n t k (omega arith) in
-    omega arith
+placed_take a total used count n t k l = grind (arith, took_lowered a total used count n t k l, t.is, t.placed (k + 1), took_oct a total used count n t k)
 
 pub held_take : (a : List ℕ) (total used count n : ℕ) → Took a total used count n → Held (take_packed a total used count n) total (count - 1)
 held_take a total used count n t k l = ap fits (took_lowered a total used count n t k l).1 ∙ t.held (k + 1) (omega arith)
 
 pub pack_fits : (a : List ℕ) (total used count : ℕ) → total ≤ length a → used + 4 * count ≤ total → octets_of a total count ≡ used → Placed a total count → Held a total count → all_fit (messages a total count) ≡ true
 unfolding messages
-pack_fits a total used count i r e p h =
-    all_fit_map (λ k. message_of a total k) 0 count
-    (λ k l. ap fits (message_length a total used count i r e p (0 + k) (omega arith)) ∙ h (0 + k) (omega arith))
+pack_fits a total used count i r e p h = all_fit_map _ 0 count (λ k l. grind (arith, message_length a total used count i r e p k l, h k l))
 
 -- the octets moved and the index lowered, one behind the other
 pub moved_lowered : (xs ys zs ws : List ℕ) (total used count n : ℕ) → n ≤ used → used ≤ length xs → ys ≡ paste xs 0 (drop n xs) (used - n) → zs ≡ ys → ws ≡ lowered zs total n (count - 1) → ws ≡ take_packed xs total used count n
