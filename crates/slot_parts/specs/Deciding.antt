@@ -1,8 +1,7 @@
 -- What a piece does, decided by the state of its slot and the piece together.
-use Rattle.std.specs.Prelude.{◌≡◌, ℕ, ◌+◌, ◌*◌, ◌<◌, ◌≤◌, min, Bool, true, false, cond, ◌&&◌, ◌==◌, nat_le}
+use Rattle.std.specs.Prelude.{◌≡◌, ℕ, ◌+◌, ◌*◌, ◌<◌, ◌≤◌, min, Bool, true, false, cond, ◌&&◌, Some, None, Option, ◌==◌, nat_le}
 use Rattle.slot_parts.specs.declared.load.Load.{Load}
-use Rattle.slot_parts.specs.declared.deciding.Found.{Found}
-use Rattle.slot_parts.specs.declared.deciding.Found.TheVariants as found
+use Rattle.slot_parts.specs.declared.deciding.OpenSlot.{OpenSlot}
 use Rattle.slot_parts.specs.declared.deciding.Step.{Step}
 use Rattle.slot_parts.specs.declared.deciding.Step.TheVariants as step
 
@@ -13,9 +12,9 @@ abbrev pub load_of : ℕ → ℕ → ℕ → Load
 load_of remaining limit len = record { remaining = remaining; limit = limit; len = len }
 
 -- an open slot's length is within its limit, and that within a stretch
-abbrev pub Within : Found → Type 0
-Within found.Absent = Unit {0}
-Within (found.Open slot load) = (load.len ≤ load.limit) × (load.limit ≤ 3952)
+abbrev pub Within : Option OpenSlot → Type 0
+Within None = Unit {0}
+Within (Some o) = (o.load.len ≤ o.load.limit) × (o.load.limit ≤ 3952)
 
 -- a first piece opens the slot anew
 abbrev pub first_load : ℕ → ℕ → Load
@@ -36,16 +35,16 @@ later slot load remaining len =
     (step.Break slot)
 
 -- the slot's state and the piece decide
-abbrev pub decided : Found → Bool → ℕ → ℕ → Step
-decided found.Absent true remaining len = cond (remaining == 0) step.Alone (step.Open (first_load remaining len))
-decided (found.Open slot load) true remaining len = cond (remaining == 0) step.Alone (step.Restart slot (first_load remaining len))
-decided found.Absent false remaining len = step.Stray
-decided (found.Open slot load) false remaining len = later slot load remaining len
+abbrev pub decided : Option OpenSlot → Bool → ℕ → ℕ → Step
+decided None true remaining len = cond (remaining == 0) step.Alone (step.Open (first_load remaining len))
+decided (Some o) true remaining len = cond (remaining == 0) step.Alone (step.Restart o.slot (first_load remaining len))
+decided None false remaining len = step.Stray
+decided (Some o) false remaining len = later o.slot o.load remaining len
 
 -- an open slot is one of n
-abbrev pub Below : Found → ℕ → Type 0
-Below found.Absent n = Unit {0}
-Below (found.Open slot load) n = slot < n
+abbrev pub Below : Option OpenSlot → ℕ → Type 0
+Below None n = Unit {0}
+Below (Some o) n = o.slot < n
 
 -- a load that a piece of k octets has grown to, at one of n slots
 pub record Grows (slot : ℕ) (load : Load) (k n : ℕ) : Type 0 where

@@ -12,11 +12,11 @@ pub const REMAINING_MOST: u8 = 15;
 // The most octets of data in a piece.
 pub const DATA_MOST: usize = 255;
 
-// The slot that is open under a piece's mark.
+// A slot that is open under a piece's mark.
 #[derive(Clone, Copy)]
-pub enum Found {
-    Absent,
-    Open { slot: usize, load: Load },
+pub struct OpenSlot {
+    pub slot: usize,
+    pub load: Load,
 }
 
 // What a piece does: it is a unit alone; it opens a slot; it restarts, breaks, is held in, or finishes the slot of its mark; or it is stray.
@@ -78,28 +78,27 @@ fn grown(load: Load, remaining: u8, len: usize) -> Load
 }
 
 // The state of the slot and the arriving piece decide together. For slots, which know the piece to be in range and keep their loads within bounds.
-pub fn decide(found: Found, first: bool, remaining: u8, len: usize) -> Step
+pub fn decide(found: Option<OpenSlot>, first: bool, remaining: u8, len: usize) -> Step
     requires { (remaining ≤ 15) × ((len ≤ 255) × (Within found)) }
     ensures { result ≡ decided found first remaining len }
 {
     match (found, first, remaining) {
         (_, true, 0) => Step::Alone,
-        (Found::Absent, true, _) => Step::Open {
+        (None, true, _) => Step::Open {
             load: first_load(remaining, len),
         },
-        (Found::Open { slot, .. }, true, _) => Step::Restart {
+        (Some(OpenSlot { slot, .. }), true, _) => Step::Restart {
             slot,
             load: first_load(remaining, len),
         },
-        (Found::Absent, false, _) => Step::Stray,
-        (Found::Open { slot, load }, false, _) if !follows_on(load, remaining, len) => Step::Break {
-            slot,
-        },
-        (Found::Open { slot, load }, false, 0) => Step::Finish {
+        (None, false, _) => Step::Stray,
+        (Some(OpenSlot { slot, load }), false, _) if !follows_on(load, remaining, len) =>
+            Step::Break { slot },
+        (Some(OpenSlot { slot, load }), false, 0) => Step::Finish {
             slot,
             load: grown(load, remaining, len),
         },
-        (Found::Open { slot, load }, false, _) => Step::Hold {
+        (Some(OpenSlot { slot, load }), false, _) => Step::Hold {
             slot,
             load: grown(load, remaining, len),
         },
