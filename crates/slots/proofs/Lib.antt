@@ -1,1 +1,3 @@
-pub mod Same
+pub mod Loads
+pub mod Sim
+pub mod Rest

@@ -1,12 +1,16 @@
-ghost use Rattle.slot_area.specs.Sound.{Sound};
+ghost use Rattle.slots.specs.Sound.{Sound};
 
-use slot_area::area::SlotArea;
+use slot_parts::load::Load;
 use slot_parts::settings::Settings;
+use slot_parts::store::Store;
+use timed_table::lent::TimedTable;
 
-// Slots used alone, over lent records and a lent store, which belong to them until they are let go.
+// Slots over lent records and a lent store, which belong to them until they are let go.
+// Entry i of the table has the stretch of 3,952 octets of the store that begins at 3,952 × i.
 #[derive(Drop)]
 pub struct Slots<'a, K> {
     pub(crate) settings: Settings,
-    pub(crate) area: SlotArea<'a, K>,
-    ghost sound: { Sound area },
+    pub(crate) table: TimedTable<'a, K, Load>,
+    pub(crate) store: Store<'a>,
+    ghost sound: { Sound table.entries.now store.octets.now },
 }

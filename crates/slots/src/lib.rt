@@ -1,13 +1,17 @@
-// Slots used alone: pieces of units put together in lent memory, under any kind of mark.
+// Slots: pieces of units put together in lent memory, under any kind of mark.
 #![tactic(auto)]
 
 pub mod alone;
-pub mod using;
+pub mod answers;
+pub mod calls;
+pub mod opening;
+pub mod pieces;
+pub mod receipt;
 
 // What a user of slots names.
 pub use alone::Slots;
-pub use slot_area::answers::PieceAnswer;
-pub use slot_area::receipt::Receipt;
+pub use answers::PieceAnswer;
+pub use receipt::Receipt;
 pub use slot_parts::load::Load;
 pub use slot_parts::refusals::{CopyRefusal, PieceRefusal, ReleaseRefusal, SettingsRefusal};
 pub use slot_parts::settings::Settings;

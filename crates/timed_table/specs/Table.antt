@@ -1,5 +1,5 @@
 -- The timed table: entries, each free, timed under a key, or held.
-use Rattle.std.specs.Prelude.{ℕ, ◌+◌, ◌-◌, Bool, true, false, cond, List, [], ◌∷◌, Some, None, Option, nat_lt, slice_set}
+use Rattle.std.specs.Prelude.{◌≡◌, ◌<◌, MatchOption, length, slice_index_or, ℕ, ◌+◌, ◌-◌, Bool, true, false, cond, List, [], ◌∷◌, Some, None, Option, nat_lt, slice_set}
 use Rattle.timed_table.specs.Marks.{same_numbers}
 use Rattle.timed_table.specs.declared.entry.Entry.{Entry}
 use Rattle.timed_table.specs.declared.entry.Entry.TheVariants.{Free, Timed, Held}
@@ -13,6 +13,13 @@ first_from p n (x ∷ xs) = cond (p x) (Some n) (first_from p (n + 1) xs)
 abbrev pub last_from : {X : Type 0} → (X → Bool) → ℕ → Option ℕ → List X → Option ℕ
 last_from p n found [] = found
 last_from p n found (x ∷ xs) = last_from p (n + 1) (cond (p x) (Some n) found) xs
+
+-- the last place at which p holds, told by places; none where p holds at none
+abbrev pub IsLast : {X : Type 0} → (X → Bool) → X → List X → Option ℕ → Type 0
+IsLast p d xs found =
+    MatchOption found
+    ((k : ℕ) → k < length xs → p (slice_index_or xs k d) ≡ false)
+    (λ i. (i < length xs) × (p (slice_index_or xs i d) ≡ true) × ((k : ℕ) → i < k → k < length xs → p (slice_index_or xs k d) ≡ false))
 
 -- whether an entry is timed under a key that means the numbers ns
 abbrev pub timed_as : {K V : Type 0} → (K → List ℕ) → List ℕ → Entry K V → Bool

@@ -16,19 +16,13 @@ impl<K, V> Entry<K, V> {
     pub(crate) fn is_free(&self) -> bool
         ensures { result ≡ is_free self.now }
     {
-        match self {
-            Entry::Free => true,
-            _ => false,
-        }
+        matches!(self, Entry::Free)
     }
 
     pub(crate) fn is_timed(&self) -> bool
         ensures { result ≡ is_timed self.now }
     {
-        match self {
-            Entry::Timed { .. } => true,
-            _ => false,
-        }
+        matches!(self, Entry::Timed { .. })
     }
 
     // The load of a timed entry.
@@ -60,10 +54,7 @@ impl<K, V> Entry<K, V> {
 pub(crate) fn is_timed_as<K: Mark, V>(entry: &Entry<K, V>, key: &K) -> bool
     ensures { result ≡ timed_as K.numbers (K.numbers key.now) entry.now }
 {
-    match entry {
-        Entry::Timed { key: held, .. } => held.same(key),
-        _ => false,
-    }
+    matches!(entry, Entry::Timed { key: held, .. } if held.same(key))
 }
 
 // One tick of one entry; whether it lapsed.
@@ -71,31 +62,22 @@ pub(crate) fn tick_entry<K: Drop, V: Drop>(entry: &mut Entry<K, V>) -> bool
     ensures after { entry.new ≡ ticked entry.old }
     ensures value { result ≡ lapses entry.old }
 {
-    let over = match entry {
-        Entry::Timed { ticks, .. } => {
-            if *ticks > 1 {
-                *ticks -= 1;
-                false
-            } else {
-                true
-            }
-        }
-        _ => false,
+    let Entry::Timed { ticks, .. } = entry else {
+        return false;
     };
-    if over {
-        *entry = Entry::Free;
+    if *ticks > 1 {
+        *ticks -= 1;
+        return false;
     }
-    over
+    *entry = Entry::Free;
+    true
 }
 
 // Another load for a timed entry.
 pub(crate) fn reload_entry<K, V: Drop>(entry: &mut Entry<K, V>, load: V)
     ensures { entry.new ≡ reloaded load entry.old }
 {
-    match entry {
-        Entry::Timed { load: old, .. } => {
-            *old = load;
-        }
-        _ => {}
+    if let Entry::Timed { load: old, .. } = entry {
+        *old = load;
     }
 }

@@ -1,5 +1,5 @@
-ghost use Rattle.std.specs.Prelude.{◌≡◌, ◌<◌, map, length, IfSome, Some, None, count_by, slice_index_or};
-ghost use Rattle.timed_table.specs.Table.{first_from, last_from, timed_as, is_free, is_timed, ticked, lapses, timed_load, held_load};
+ghost use Rattle.std.specs.Prelude.{◌≡◌, ◌<◌, map, length, IfSome, count_by, position, slice_index_or};
+ghost use Rattle.timed_table.specs.Table.{IsLast, timed_as, is_free, is_timed, ticked, lapses, timed_load, held_load};
 ghost use Rattle.timed_table.specs.declared.entry.Entry.TheVariants.{Free};
 
 use crate::entry::{Entry, is_timed_as, tick_entry};
@@ -7,29 +7,17 @@ use crate::mark::Mark;
 
 // The first entry that is timed under a mark, found alike for every kind of mark.
 pub(crate) fn find<K: Mark, V>(entries: &[Entry<K, V>], key: &K) -> Option<usize>
-    ensures value { result ≡ first_from (timed_as K.numbers (K.numbers key.now)) 0 entries.now }
+    ensures value { result ≡ position (timed_as K.numbers (K.numbers key.now)) entries.now }
     ensures bound { IfSome result (λ i. i < length entries.now) }
 {
-    for (i, e) in entries.iter().enumerate() {
-        if is_timed_as(e, key) {
-            return Some(i);
-        }
-    }
-    None
+    entries.iter().position(|e| is_timed_as(e, key))
 }
 
 // The highest-numbered free entry.
 pub(crate) fn last_free<K, V>(entries: &[Entry<K, V>]) -> Option<usize>
-    ensures value { result ≡ last_from is_free 0 None entries.now }
-    ensures bound { IfSome result (λ i. i < length entries.now) }
+    ensures { IsLast is_free Free entries.now result }
 {
-    let mut found = None;
-    for (i, e) in entries.iter().enumerate() {
-        if e.is_free() {
-            found = Some(i);
-        }
-    }
-    found
+    entries.iter().rposition(|e| e.is_free())
 }
 
 // How many entries are timed, counted from the entries themselves.
@@ -63,9 +51,7 @@ pub(crate) fn tick_all<K: Drop, V: Drop>(entries: &mut [Entry<K, V>]) -> usize
 pub(crate) fn free_all<K: Drop, V: Drop>(entries: &mut [Entry<K, V>])
     ensures { entries.new ≡ map (λ _. Free) entries.old }
 {
-    for e in entries.iter_mut() {
-        *e = Entry::Free;
-    }
+    entries.fill_with(|| Entry::Free);
 }
 
 // The load of entry i, if it is timed. For the table, which knows that there is an entry i.

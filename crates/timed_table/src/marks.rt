@@ -14,6 +14,7 @@ fn same_octets(a: &[u8], b: &[u8]) -> bool
 }
 
 // Whether two references are the same, and the octets before them.
+#[tactic(auto, using(crate::proofs::Ends::same_ends))]
 fn same_ends(a: &[u8], b: &[u8], p: u32, q: u32) -> bool
     ensures { result ≡ same_numbers (a.now ++ (p ∷ [])) (b.now ++ (q ∷ [])) }
 {
@@ -24,7 +25,7 @@ impl Mark for Reference {
     ghost numbers = { reference_numbers };
 
     fn same(&self, other: &Reference) -> bool {
-        self.number == other.number
+        self == other
     }
 }
 

@@ -47,6 +47,7 @@ impl<'a, K: Drop, V: Drop> TimedTable<'a, K, V> {
     }
 
     // The highest-numbered free entry.
+    #[tactic(auto, using(crate::proofs::Places::last_is))]
     pub fn last_free(&self) -> Option<usize>
         ensures value { result ≡ last_from is_free 0 None self.now.entries.now }
         ensures bound { IfSome result (λ i. i < length self.now.entries.now) }
@@ -95,18 +96,15 @@ impl<'a, K: Drop, V: Drop> TimedTable<'a, K, V> {
         ensures value { result ≡ last_from is_free 0 None self.old.entries.now }
         ensures after { Kept self.old self.new (opened result (Timed key ticks load) self.old.entries.now) }
     {
-        match self.last_free() {
-            Some(i) => {
-                self.entries[i] = Entry::Timed { key, ticks, load };
-                Some(i)
-            }
-            None => None,
-        }
+        let i = self.last_free()?;
+        self.entries[i] = Entry::Timed { key, ticks, load };
+        Some(i)
     }
 }
 
 impl<'a, K: Mark + Drop, V: Drop> TimedTable<'a, K, V> {
     // The first entry that is timed under a mark.
+    #[tactic(auto, using(crate::proofs::Places::first_is))]
     pub fn find(&self, key: &K) -> Option<usize>
         ensures value { result ≡ first_from (timed_as K.numbers (K.numbers key.now)) 0 self.now.entries.now }
         ensures bound { IfSome result (λ i. i < length self.now.entries.now) }

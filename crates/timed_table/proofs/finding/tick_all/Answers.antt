@@ -1,7 +1,7 @@
 use Rattle.std.proofs.Common.{◌≡◌, ◌+◌, ◌++◌, map, get_or, take, drop, set, sym, ap, ◌∙◌, arith}
 use Rattle.std.proofs.lemmas.List.Edits.{map_over_more}
 use Rattle.timed_table.specs.Table.{ticked, lapses}
-use Rattle.timed_table.proofs.Steps.{count_yes, count_no, count_end, rest_read, map_end}
+use Rattle.timed_table.proofs.Steps.{count_yes, count_no, rest_read}
 use Rattle.timed_table.proofs.finding.tick_all.Goals as goal
 use Rattle.timed_table.proofs.finding.tick_all.Goals.{then-tick_entry, else-tick_entry}
 
@@ -20,12 +20,3 @@ loop-e-preserved g c =
       | then-tick_entry w ↦ (omega (arith, w.n-is), w.n-is ∙ ap (λ k. k + 1) c.loop-e.invariant.1 ∙ sym (count_yes lapses xs i x lt read (sym value ∙ w.if-tick_entry.true)), after)
       | else-tick_entry w ↦ (omega (arith, w.n-is), w.n-is ∙ c.loop-e.invariant.1 ∙ sym (count_no lapses xs i x lt read (sym value ∙ w.if-tick_entry.false)), after)
     ]
-
-pub returns : goal.returns
-returns g c =
-    let xs = c.args.entries.now in
-    let i = c.loop-e.e-index in
-    record {
-      after = map_end ticked xs c.loop-e.entries i c.loop-e-test.false c.loop-e.invariant.2;
-      value = c.loop-e.invariant.1 ∙ count_end lapses xs i c.loop-e-test.false;
-    }

@@ -1,14 +1,25 @@
-use Rattle.std.proofs.Common.{refl}
-use Rattle.slots.proofs.Same.{same_if}
+use Rattle.std.proofs.Common.{◌≡◌, ◌∙◌, rules}
+use Rattle.slots.specs.Answers.{answered}
+use Rattle.slots.specs.Became.{Became}
+use Rattle.slots.specs.Pieces.{piece_answer, piece_entries, piece_octets}
+use Rattle.slots.proofs.Sim.{took_in}
 use Rattle.slots.proofs.alone.Slots.piece.Goals as goal
 
-pub returns : goal.returns
-returns g c =
-    let p = c.piece.ensures in
-    record {
-      answer = p.answer;
-      seen = p.seen;
-      after = p.after;
-      settings = refl;
-      idle = same_if c.args.self.now.settings c.piece.new.self c.args.self.now.area _ c.args.self.now.sound c.piece.result p.idle;
-    }
+pub returns-clause-answer : goal.returns-clause-answer
+returns-clause-answer g c =
+    let s = c.args.self.now in
+    let m = g.K.Mark.numbers in
+    let es = s.table.entries.now in
+    let d = c.args.contents.now in
+    let v : answered c.act.result ≡ piece_answer m c.args.key c.args.first c.args.remaining d es s.settings.code = search rules in
+    let b : Became s c.act.new.self (piece_entries m c.args.key c.args.first c.args.remaining d es s.settings.ticks) (piece_octets m c.args.key c.args.first c.args.remaining d es s.store.octets.now) = search rules in
+    v ∙ (took_in m s c.act.new.self c.args.key s.settings.code s.settings.ticks c.args.first c.args.remaining d b).0
+
+pub returns-clause-seen : goal.returns-clause-seen
+returns-clause-seen g c =
+    let s = c.args.self.now in
+    let m = g.K.Mark.numbers in
+    let es = s.table.entries.now in
+    let d = c.args.contents.now in
+    let b : Became s c.act.new.self (piece_entries m c.args.key c.args.first c.args.remaining d es s.settings.ticks) (piece_octets m c.args.key c.args.first c.args.remaining d es s.store.octets.now) = search rules in
+    (took_in m s c.act.new.self c.args.key s.settings.code s.settings.ticks c.args.first c.args.remaining d b).1

@@ -1,4 +1,0 @@
-pub mod Loads
-pub mod Sounds
-pub mod Sim
-pub mod Rest

@@ -1,0 +1,89 @@
+-- That the bounds on the loads are kept.
+use Rattle.std.proofs.Common.{◌≡◌, ℕ, zero, suc, ◌*◌, ◌≤◌, true, ltb, leb, List, [], ◌∷◌, map, length, get_or, take, set, Some, refl, ap, ◌∙◌, subst, arith}
+use Rattle.std.proofs.lemmas.List.{length-set, length-map, length-take-le}
+use Rattle.std.proofs.lemmas.Bool.{cond_both, and_from, and_parts, le-leb, leb-true}
+use Rattle.timed_table.specs.declared.entry.Entry.{Entry}
+use Rattle.timed_table.specs.declared.entry.Entry.TheVariants.{Free, Timed, Held}
+use Rattle.slot_parts.specs.declared.load.Load.{Load}
+use Rattle.slot_parts.specs.Loads.{load_ok}
+use Rattle.slots.specs.Loads.{entry_ok, all_ok}
+use Rattle.slots.specs.Sound.{Sound}
+use Rattle.timed_table.specs.Table.{reloaded, timed_load, ticked}
+use Rattle.slot_parts.specs.Deciding.{Grows}
+use Rattle.slots.specs.Pieces.{found_entry, slots_of}
+
+module _ {K : Type 0} where
+  pub all_ok_set : (es : List (Entry K Load)) (i : ℕ) (e : Entry K Load) → all_ok es ≡ true → entry_ok e ≡ true → all_ok (set es i e) ≡ true
+  all_ok_set [] i e h k = refl
+  all_ok_set (x ∷ xs) zero e h k = and_from (entry_ok e) (all_ok xs) k (and_parts (entry_ok x) (all_ok xs) h).1
+  all_ok_set (x ∷ xs) (suc i) e h k = and_from (entry_ok x) (all_ok (set xs i e)) (and_parts (entry_ok x) (all_ok xs) h).0 (all_ok_set xs i e (and_parts (entry_ok x) (all_ok xs) h).1 k)
+
+  pub all_ok_at : (es : List (Entry K Load)) (i : ℕ) → all_ok es ≡ true → entry_ok (get_or es i Free) ≡ true
+  all_ok_at [] i h = refl
+  all_ok_at (x ∷ xs) zero h = (and_parts (entry_ok x) (all_ok xs) h).0
+  all_ok_at (x ∷ xs) (suc i) h = all_ok_at xs i (and_parts (entry_ok x) (all_ok xs) h).1
+
+  pub reloaded_ok : (load : Load) (e : Entry K Load) → entry_ok e ≡ true → load_ok load ≡ true → entry_ok (reloaded load e) ≡ true
+  reloaded_ok load Free h k = refl
+  reloaded_ok load (Timed key ticks old) h k = k
+  reloaded_ok load (Held old) h k = h
+
+pub grows_ok : {slot : ℕ} {load : Load} {k n : ℕ} → Grows slot load k n → load_ok load ≡ true
+grows_ok {load = load} h = and_from (leb load.len load.limit) (leb load.limit 3952) (le-leb _ _ h.short) (le-leb _ _ h.stretch)
+
+-- the load of a slot that is timed
+module _ {K : Type 0} (slot : ℕ) (load : Load) where
+  timed_within : (e : Entry K Load) → entry_ok e ≡ true → timed_load e ≡ Some load → (load.len ≤ load.limit) × (load.limit ≤ 3952)
+  timed_within Free h t = cc
+  timed_within (Timed key ticks l) h t =
+      let e : l ≡ load = cc in
+      let p = and_parts (leb l.len l.limit) (leb l.limit 3952) h in
+      subst (λ (m : Load). (m.len ≤ m.limit) × (m.limit ≤ 3952)) e (leb-true _ _ p.0, leb-true _ _ p.1)
+  timed_within (Held l) h t = cc
+
+  pub found_within : (es : List (Entry K Load)) → all_ok es ≡ true → timed_load (get_or es slot Free) ≡ Some load → (load.len ≤ load.limit) × (load.limit ≤ 3952)
+  found_within es h t = timed_within (get_or es slot Free) (all_ok_at es slot h) t
+
+  pub found_entry_is : (e : Entry K Load) → timed_load e ≡ Some load → Some (record { slot = slot; load = load }) ≡ found_entry slot e
+  found_entry_is Free t = cc
+  found_entry_is (Timed key ticks l) t = cc
+  found_entry_is (Held l) t = cc
+
+-- the bounds on the slots after an entry is put
+pub put_keeps : {K : Type 0} (es es' : List (Entry K Load)) (os : List ℕ) (slot : ℕ) (e : Entry K Load) → es' ≡ set es slot e → Sound es os → entry_ok e ≡ true → Sound es' os
+put_keeps es es' os slot e after s ok =
+    let long : length es' ≡ length es = ap length after ∙ length-set es slot e in
+    let few : length es ≤ 16 = s.0 in
+    let fits : length es * 3952 ≤ length os = s.1 in
+    (omega arith, omega arith, ap all_ok after ∙ all_ok_set es slot e s.2 ok)
+
+module _ {K : Type 0} where
+  ticked_ok : (e : Entry K Load) → entry_ok e ≡ true → entry_ok (ticked e) ≡ true
+  ticked_ok Free h = refl
+  ticked_ok (Timed key ticks load) h = cond_both (ltb 1 ticks) _ _ (λ x. entry_ok x ≡ true) (λ _. h) (λ _. refl)
+  ticked_ok (Held load) h = h
+
+  all_ok_ticked : (es : List (Entry K Load)) → all_ok es ≡ true → all_ok (map ticked es) ≡ true
+  all_ok_ticked [] h = refl
+  all_ok_ticked (e ∷ es) h =
+      let p = and_parts (entry_ok e) (all_ok es) h in
+      and_from (entry_ok (ticked e)) (all_ok (map ticked es)) (ticked_ok e p.0) (all_ok_ticked es p.1)
+
+  -- the bounds on the slots after a tick
+  pub tick_keeps : (es es' : List (Entry K Load)) (os : List ℕ) → es' ≡ map ticked es → Sound es os → Sound es' os
+  tick_keeps es es' os after s =
+      let long : length es' ≡ length es = ap length after ∙ length-map es ticked in
+      let few : length es ≤ 16 = s.0 in
+      let fits : length es * 3952 ≤ length os = s.1 in
+      (omega arith, omega arith, ap all_ok after ∙ all_ok_ticked es s.2)
+
+  all_ok_free : (es : List (Entry K Load)) → all_ok {K = K} (map (λ _. Free) es) ≡ true
+  all_ok_free [] = refl
+  all_ok_free (e ∷ es) = all_ok_free es
+
+  -- the bounds on the slots when all are free
+  pub free_keeps : (xs es' : List (Entry K Load)) (os : List ℕ) → es' ≡ map (λ _. Free) (take (slots_of (length xs) (length os)) xs) → Sound es' os
+  free_keeps xs es' os after =
+      let n = slots_of (length xs) (length os) in
+      let long : length es' ≡ n = ap length after ∙ length-map (take n xs) (λ _. Free) ∙ length-take-le n xs (omega arith) in
+      (omega arith, omega arith, ap all_ok after ∙ all_ok_free (take n xs))
