@@ -7,7 +7,7 @@ use Rattle.slot_laws.proofs.Splice.{gives}
 use Rattle.kept_receipts.specs.Receipts.{is_whole, names, apart, spendable}
 
 false_true : false ≡ true → ⊥
-false_true e = let z : ◌≡◌ {A = ℕ} 0 1 = cc in omega arith
+false_true e = cc
 
 -- the tests as facts
 abbrev pub Names : ℕ → List Slot → Receipt → Type 0
@@ -103,7 +103,7 @@ with_end C ss [] r h n a = (n, (tt, tt))
 with_end C ss (q ∷ qs) r h n a = (h.0, (apart_end q.slot qs r h.1.0 (λ e. a.0 (sym e)), with_end C ss qs r h.1.1 n a.1))
 
 hands_released : (r : Receipt) (i : ℕ) → hands r ≡ released i → ⊥
-hands_released r i e = let z : ◌≡◌ {A = ℕ} 0 1 = cc in omega arith
+hands_released r i e = cc
 
 pub given_too : (C T : ℕ) (ss : List Slot) (e : Event) (rs : List Receipt) (r : Receipt) → (step C T ss e).1 ≡ hands r → Spendable C ss rs → Spendable C (step C T ss e).0 (rs ++ r ∷ [])
 given_too C T ss e rs r a h =

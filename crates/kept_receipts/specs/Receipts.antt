@@ -1,9 +1,9 @@
 -- The receipts of slots that are not spent yet: each of them can be spent.
 use Rattle.std.specs.Prelude.{◌≡◌, ℕ, Bool, true, false, not, ◌&&◌, ◌==◌, List, [], ◌∷◌, map, slice_index_or}
 use Rattle.slot_laws.specs.Machine.{Slot, free, opened, whole, Receipt}
-use Rattle.slot_area.specs.declared.receipt.Receipt.{Receipt as Given}
-use Rattle.slot_area.specs.Answers.{receipt_of}
-use Rattle.slot_area.specs.View.{view}
+use Rattle.slots.specs.declared.receipt.Receipt.{Receipt as Given}
+use Rattle.slots.specs.Answers.{receipt_of}
+use Rattle.slots.specs.View.{view}
 use Rattle.slots.specs.declared.alone.Slots.{Slots}
 
 abbrev pub is_whole : Slot → Bool
@@ -27,7 +27,7 @@ spendable C ss (r ∷ rs) = names C ss r && (apart r.slot rs && spendable C ss r
 
 -- the receipts that slots gave; which slots are whole does not depend on what a mark means
 unfoldable pub kept : {K : Type 0} → Slots K → List Given → Bool
-kept s rs = spendable s.settings.code (view (λ _. []) s.area) (map receipt_of rs)
+kept s rs = spendable s.settings.code (view (λ _. []) s) (map receipt_of rs)
 
 abbrev pub Kept : {K : Type 0} → Slots K → List Given → Type 0
 Kept s rs = kept s rs ≡ true

@@ -4,65 +4,40 @@ use Rattle.slot_laws.specs.Machine as law
 use Rattle.slot_parts.specs.declared.refusals.PieceRefusal.{PieceRefusal}
 use Rattle.slot_parts.specs.declared.refusals.ReleaseRefusal.{ReleaseRefusal}
 use Rattle.slot_parts.specs.Numbers.{piece_number, release_number}
-use Rattle.slot_area.specs.declared.receipt.Receipt.{Receipt}
-use Rattle.slot_area.specs.declared.answers.PieceAnswer.{PieceAnswer}
-use Rattle.slot_area.specs.declared.answers.PieceAnswer.TheVariants as answer
-use Rattle.kept_receipts.specs.declared.answers.KeptAnswer.{KeptAnswer}
-use Rattle.kept_receipts.specs.declared.answers.KeptAnswer.TheVariants as kept
+use Rattle.slots.specs.declared.receipt.Receipt.{Receipt}
+use Rattle.slots.specs.declared.answers.PieceAnswer.{PieceAnswer}
+use Rattle.slots.specs.declared.answers.PieceAnswer.TheVariants as answer
+use Rattle.slots.specs.Answers.{answered_as}
+use Rattle.kept_receipts.specs.declared.answers.Whole.{Whole}
+
+-- what is told of a unit names it as its receipt would, of the station of a code
+abbrev pub whole_of : ℕ → Whole → law.Receipt
+whole_of C w = record { code = C; slot = w.slot; size = w.length }
 
 -- an answer of the station of a code
-abbrev pub told_as : ℕ → KeptAnswer → law.Answer
-told_as C (kept.Alone unit) = law.alone unit.now
-told_as C kept.NoSlots = law.refused 10
-told_as C kept.NoneFree = law.refused 6
-told_as C (kept.Opened slot) = law.opens slot
-told_as C (kept.Restarted slot) = law.restarts slot
-told_as C kept.Stray = law.stray
-told_as C (kept.Broken slot) = law.breaks slot
-told_as C (kept.Held slot) = law.holds slot
-told_as C (kept.HandedUp slot size) = law.hands (record { code = C; slot = slot; size = size })
+abbrev pub told_as : ℕ → PieceAnswer Whole → law.Answer
+told_as C a = answered_as (whole_of C) a
 
-abbrev pub piece_told : ℕ → Result KeptAnswer PieceRefusal → law.Answer
+abbrev pub piece_told : ℕ → Result (PieceAnswer Whole) PieceRefusal → law.Answer
 piece_told C (Ok a) = told_as C a
 piece_told C (Err e) = law.declined (piece_number e)
 
 -- the code of the receipt in an answer of slots
-abbrev pub code_in : PieceAnswer → ℕ
-code_in (answer.Alone unit) = 0
-code_in answer.NoSlots = 0
-code_in answer.NoneFree = 0
-code_in (answer.Opened slot) = 0
-code_in (answer.Restarted slot) = 0
-code_in answer.Stray = 0
-code_in (answer.Broken slot) = 0
-code_in (answer.Held slot) = 0
+abbrev pub code_in : PieceAnswer Receipt → ℕ
 code_in (answer.HandedUp receipt) = receipt.code
+code_in _ = 0
 
 -- the receipts with that of an answer
-abbrev pub added : List Receipt → PieceAnswer → List Receipt
-added rs (answer.Alone unit) = rs
-added rs answer.NoSlots = rs
-added rs answer.NoneFree = rs
-added rs (answer.Opened slot) = rs
-added rs (answer.Restarted slot) = rs
-added rs answer.Stray = rs
-added rs (answer.Broken slot) = rs
-added rs (answer.Held slot) = rs
+abbrev pub added : List Receipt → PieceAnswer Receipt → List Receipt
 added rs (answer.HandedUp receipt) = rs ++ receipt ∷ []
+added rs _ = rs
 
 -- the receipts with that of a piece that was handed up by the station of a code
-abbrev pub with_receipt : ℕ → List Receipt → KeptAnswer → List Receipt
-with_receipt C rs (kept.Alone unit) = rs
-with_receipt C rs kept.NoSlots = rs
-with_receipt C rs kept.NoneFree = rs
-with_receipt C rs (kept.Opened slot) = rs
-with_receipt C rs (kept.Restarted slot) = rs
-with_receipt C rs kept.Stray = rs
-with_receipt C rs (kept.Broken slot) = rs
-with_receipt C rs (kept.Held slot) = rs
-with_receipt C rs (kept.HandedUp slot size) = rs ++ record { code = C; slot = slot; len = size } ∷ []
+abbrev pub with_receipt : ℕ → List Receipt → PieceAnswer Whole → List Receipt
+with_receipt C rs (answer.HandedUp w) = rs ++ record { code = C; slot = w.slot; len = w.length } ∷ []
+with_receipt C rs _ = rs
 
-abbrev pub receipts_with : ℕ → List Receipt → Result KeptAnswer PieceRefusal → List Receipt
+abbrev pub receipts_with : ℕ → List Receipt → Result (PieceAnswer Whole) PieceRefusal → List Receipt
 receipts_with C rs (Ok a) = with_receipt C rs a
 receipts_with C rs (Err e) = rs
 

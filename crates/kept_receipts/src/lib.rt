@@ -5,5 +5,5 @@ pub mod answers;
 pub mod held;
 pub mod keeping;
 
-pub use answers::KeptAnswer;
+pub use answers::{KeptAnswer, Whole};
 pub use held::KeptReceipts;

@@ -1,4 +1,4 @@
-use Rattle.std.proofs.Common.{ap, ◌∙◌, sym, subst}
+use Rattle.std.proofs.Common.{sym, subst}
 use Rattle.slot_laws.specs.Machine as law
 use Rattle.kept_receipts.specs.Receipts.{Kept}
 use Rattle.kept_receipts.proofs.Calls.{taken_in}
@@ -10,7 +10,6 @@ invariant_of-self-in-Ok g c =
     let m = g.K.Mark.numbers in
     let e = law.piece (m c.args.key) c.args.first c.args.remaining c.args.contents.now in
     record {
-      ours = ap (λ x. x.code) c.piece.ensures.settings ∙ s.ours;
       kept = subst (λ rs. Kept c.piece.new.self rs) (sym c.told.ensures.kept)
-          (taken_in m s.slots c.piece.new.self e c.in-Ok.answer c.reserve.new.self.items c.piece.ensures.settings c.piece.ensures.seen c.in-Ok.ensures.answer (subst (λ rs. Kept s.slots rs) (sym c.reserve.ensures.items) s.kept));
+          (taken_in m s.slots c.piece.new.self e c.in-Ok.answer c.reserve.new.self.items c.piece.ensures.after.settings c.piece.ensures.seen c.in-Ok.ensures.answer (subst (λ rs. Kept s.slots rs) (sym c.reserve.ensures.items) s.kept));
     }

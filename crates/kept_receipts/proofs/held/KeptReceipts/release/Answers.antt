@@ -1,4 +1,4 @@
-use Rattle.std.proofs.Common.{◌<◌, length, ap, ◌∙◌, sym, subst, rules}
+use Rattle.std.proofs.Common.{◌<◌, length, ◌∙◌, sym, subst, rules}
 use Rattle.kept_receipts.specs.Receipts.{Kept}
 use Rattle.kept_receipts.proofs.Calls.{accepted, spends, declined_released}
 use Rattle.kept_receipts.proofs.held.KeptReceipts.release.Goals as goal
@@ -9,9 +9,8 @@ invariant_of-self g c =
     let r = c.remove-receipt.result in
     let l : c.args.place < length s.receipts.items = search rules in
     record {
-      ours = ap (λ x. x.code) c.release.ensures.settings ∙ s.ours;
       kept = subst (λ rs. Kept c.release.new.self rs) (sym c.remove-receipt.ensures.by_index.2)
-          (spends g.K.Mark.numbers s.slots c.release.new.self s.receipts.items c.args.place r r l c.remove-receipt.ensures.value c.release.ensures.settings c.release.ensures.seen s.kept);
+          (spends g.K.Mark.numbers s.slots c.release.new.self s.receipts.items c.args.place r r l c.remove-receipt.ensures.value c.release.ensures.after.settings c.release.ensures.seen s.kept);
     }
 
 pub unreachable-requires : goal.unreachable-requires

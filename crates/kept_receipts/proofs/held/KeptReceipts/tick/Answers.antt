@@ -1,4 +1,3 @@
-use Rattle.std.proofs.Common.{ap, ◌∙◌}
 use Rattle.kept_receipts.proofs.Calls.{ticked}
 use Rattle.kept_receipts.proofs.held.KeptReceipts.tick.Goals as goal
 
@@ -6,6 +5,5 @@ pub invariant_of-self : goal.invariant_of-self
 invariant_of-self g c =
     let s = c.args.self.now in
     record {
-      ours = ap (λ x. x.code) c.tick.ensures.settings ∙ s.ours;
-      kept = ticked g.K.Mark.numbers s.slots c.tick.new.self c.tick.result s.receipts.items c.tick.ensures.settings c.tick.ensures.seen c.tick.ensures.answer s.kept;
+      kept = ticked g.K.Mark.numbers s.slots c.tick.new.self c.tick.result s.receipts.items c.tick.ensures.after.settings c.tick.ensures.seen c.tick.ensures.answer s.kept;
     }
