@@ -72,9 +72,9 @@ kept_on m s s' e rs same after n h =
     kept_from m s s' (step_of m s e).0 rs same after (tests s.settings.code (step_of m s e).0 (map receipt_of rs) b)
 
 -- no receipt at all
-pub none_kept : {K : Type 0} (s : Slots K) → Kept s []
+pub none_kept : {K : Type 0} (s : Slots K) (rs : List Receipt) → rs ≡ [] → Kept s rs
 unfolding kept
-none_kept s = refl
+none_kept s rs e = ap (λ x. spendable s.settings.code (view (λ _. []) s) (map receipt_of x)) e
 
 -- a tick releases nothing
 pub ticked : {K : Type 0} (m : K → List ℕ) (s s' : Slots K) (n : ℕ) (rs : List Receipt)

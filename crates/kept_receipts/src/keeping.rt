@@ -21,6 +21,7 @@ use std::alloc::{AllocError, Global};
 
 impl<'a, K: Mark + Drop> KeptReceipts<'a, K> {
     // Slots over lent records and a lent store, with no receipt yet.
+    #[tactic(auto, using(crate::proofs::Calls::none_kept))]
     pub fn open(
         heap: Global,
         settings: Settings,

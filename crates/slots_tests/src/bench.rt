@@ -1,8 +1,9 @@
 // Calls of slots used alone, each answered by a line. The receipts that are given are kept, and are named by their place.
 use anyhow::anyhow;
-use kept_receipts::{KeptAnswer, KeptReceipts};
-use slots::{CopyRefusal, Entry, Load, Receipt, Reference, ReleaseRefusal, Slots};
+use kept_receipts::{KeptAnswer, KeptReceipts, Whole};
+use slots::{CopyRefusal, Entry, Load, Receipt, Reference, ReleaseRefusal};
 use std::alloc::Global;
+use std::fmt;
 
 // A piece is given by mark, remaining, length and an octet, of which all its data consists.
 #[derive(Clone, Copy)]
@@ -18,18 +19,18 @@ pub enum Call {
     Count,
 }
 
+// A refusal, by its number and in words.
+pub fn say_refused<E: fmt::Display>(rt: &HostRuntime, number: u8, why: &E) -> anyhow::Result<()> {
+    println!(rt; "refused {number}: {why}")?;
+    Ok(())
+}
+
 // How often an octet that is the same as the next stands there: 3 of A1 is written A1*3.
 fn say_octets(rt: &HostRuntime, octets: &[u8]) -> anyhow::Result<()> {
-    let mut run = 0usize;
-    for (i, b) in octets.iter().enumerate() {
-        run = run.saturating_add(1);
-        let more = match octets.get(i.saturating_add(1)) {
-            Some(next) => *next == *b,
-            None => false,
-        };
-        if !more {
-            print!(rt; " {b:02X}*{run}")?;
-            run = 0;
+    for run in octets.chunk_by(|a, b| a == b) {
+        if let [b, ..] = run {
+            let n = run.len();
+            print!(rt; " {b:02X}*{n}")?;
         }
     }
     println!(rt; "")?;
@@ -56,13 +57,12 @@ fn piece(
         Ok(KeptAnswer::Stray) => println!(rt; "stray")?,
         Ok(KeptAnswer::Broken { slot }) => println!(rt; "broken slot {slot}")?,
         Ok(KeptAnswer::Held { slot }) => println!(rt; "held slot {slot}")?,
-        Ok(KeptAnswer::HandedUp { slot, length }) => {
-            println!(rt; "handed up from pieces, slot {slot}, {length} octets")?
-        }
-        Err(why) => {
-            let number = why.number();
-            println!(rt; "refused {number}: {why}")?
-        }
+        Ok(
+            KeptAnswer::HandedUp {
+                receipt: Whole { slot, length },
+            },
+        ) => println!(rt; "handed up from pieces, slot {slot}, {length} octets")?,
+        Err(why) => say_refused(rt, why.number(), &why)?,
     }
     Ok(())
 }
@@ -80,74 +80,26 @@ fn tick(
     Ok(())
 }
 
-// What a copy answered, and what the buffer then holds.
-fn say_copied(
+// A copy of the unit of a receipt, which `copy` makes, into a buffer of `room` octets, all CC before: what it answered, and what the
+// buffer then holds.
+pub fn copy<F: Fn(&Receipt, &mut [u8]) -> Result<usize, CopyRefusal>>(
     rt: &HostRuntime,
-    copied: Result<usize, CopyRefusal>,
-    buffer: &[u8],
-) -> anyhow::Result<()> {
-    match copied {
-        Ok(n) => {
-            print!(rt; "copied {n}:")?;
-            say_octets(rt, buffer)?
-        }
-        Err(why) => {
-            let number = why.number();
-            println!(rt; "refused {number}: {why}")?
-        }
-    }
-    Ok(())
-}
-
-// A copy of the unit of a receipt that some keep into a buffer of `room` octets, all CC before.
-pub fn copy(
-    rt: &HostRuntime,
-    slots: &KeptReceipts<'_, Reference>,
-    keeper: &KeptReceipts<'_, Reference>,
-    place: usize,
-    room: usize,
-) -> anyhow::Result<()> {
-    let mut buffer = vec![in rt.alloc(); 0xCCu8; room]?;
-    match keeper.receipt(place) {
-        Some(receipt) => {
-            let copied = slots.copy(receipt, buffer.as_mut_slice());
-            say_copied(rt, copied, buffer.as_slice())
-        }
-        None => Err(anyhow!("no such receipt")),
-    }
-}
-
-// The same of a receipt of their own.
-pub fn copy_own(
-    rt: &HostRuntime,
-    slots: &KeptReceipts<'_, Reference>,
-    place: usize,
-    room: usize,
-) -> anyhow::Result<()> {
-    let mut buffer = vec![in rt.alloc(); 0xCCu8; room]?;
-    match slots.receipt(place) {
-        Some(receipt) => {
-            let copied = slots.copy(receipt, buffer.as_mut_slice());
-            say_copied(rt, copied, buffer.as_slice())
-        }
-        None => Err(anyhow!("no such receipt")),
-    }
-}
-
-// The same from slots that keep no receipts.
-pub fn copy_from(
-    rt: &HostRuntime,
-    slots: &Slots<'_, Reference>,
     receipt: Option<&Receipt>,
     room: usize,
-) -> anyhow::Result<()> {
+    copy: F,
+) -> anyhow::Result<()>
+    requires { F.IsAlwaysCallable copy }
+{
+    let Some(receipt) = receipt else {
+        return Err(anyhow!("no such receipt"));
+    };
     let mut buffer = vec![in rt.alloc(); 0xCCu8; room]?;
-    match receipt {
-        Some(receipt) => {
-            let copied = slots.copy(receipt, buffer.as_mut_slice());
-            say_copied(rt, copied, buffer.as_slice())
+    match copy(receipt, buffer.as_mut_slice()) {
+        Ok(n) => {
+            print!(rt; "copied {n}:")?;
+            say_octets(rt, buffer.as_slice())
         }
-        None => Err(anyhow!("no such receipt")),
+        Err(why) => say_refused(rt, why.number(), &why),
     }
 }
 
@@ -158,10 +110,7 @@ pub fn say_offered(
 ) -> anyhow::Result<()> {
     match offered {
         Some(Ok(())) => println!(rt; "released")?,
-        Some(Err(why)) => {
-            let number = why.number();
-            println!(rt; "refused {number}: {why}")?
-        }
+        Some(Err(why)) => say_refused(rt, why.number(), &why)?,
         None => return Err(anyhow!("no such receipt")),
     }
     Ok(())
@@ -186,16 +135,13 @@ fn one(
     call: Call,
 ) -> anyhow::Result<()> {
     match call {
-        Call::First(mark, remaining, len, fill) => {
+        Call::First(mark, remaining, len, fill) | Call::Later(mark, remaining, len, fill) => {
+            let first = matches!(call, Call::First(..));
             let octets = vec![in rt.alloc(); fill; len]?;
-            piece(rt, slots, mark, true, remaining, octets.as_slice())
-        }
-        Call::Later(mark, remaining, len, fill) => {
-            let octets = vec![in rt.alloc(); fill; len]?;
-            piece(rt, slots, mark, false, remaining, octets.as_slice())
+            piece(rt, slots, mark, first, remaining, octets.as_slice())
         }
         Call::Tick(times) => tick(rt, slots, times),
-        Call::Copy(place, room) => copy_own(rt, slots, place, room),
+        Call::Copy(place, room) => copy(rt, slots.receipt(place), room, |r, to| slots.copy(r, to)),
         Call::Release(place) => release(rt, slots, place),
         Call::Count => {
             let n = slots.open_slots();

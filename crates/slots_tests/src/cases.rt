@@ -49,10 +49,6 @@ const ONE_SLOT: [Call; 20] = [
     Call::Count,
 ];
 
-pub fn try_one_slot(rt: &HostRuntime, settings: Settings) -> anyhow::Result<()> {
-    tried(rt, settings, 1, 3952, &ONE_SLOT)
-}
-
 // Two slots, of three records and a store of two stretches and some: broken, stray, restarted, alone, and none free.
 const TWO_SLOTS: [Call; 23] = [
     Call::First(1, 2, 3, 0x11),
@@ -80,10 +76,6 @@ const TWO_SLOTS: [Call; 23] = [
     Call::Count,
 ];
 
-pub fn try_two_slots(rt: &HostRuntime, settings: Settings) -> anyhow::Result<()> {
-    tried(rt, settings, 3, 8004, &TWO_SLOTS)
-}
-
 // Four slots: two senders mixed, and slots that serve again.
 const MIXED: [Call; 16] = [
     Call::First(1, 2, 2, 0xA0),
@@ -104,10 +96,6 @@ const MIXED: [Call; 16] = [
     Call::Copy(0, 3),
 ];
 
-pub fn try_mixed(rt: &HostRuntime, settings: Settings) -> anyhow::Result<()> {
-    tried(rt, settings, 4, 15808, &MIXED)
-}
-
 // A store one octet short of a stretch gives no slots.
 const NO_SLOTS: [Call; 5] = [
     Call::First(1, 1, 1, 0x01),
@@ -116,10 +104,6 @@ const NO_SLOTS: [Call; 5] = [
     Call::Tick(3),
     Call::Count,
 ];
-
-pub fn try_no_slots(rt: &HostRuntime, settings: Settings) -> anyhow::Result<()> {
-    tried(rt, settings, 1, 3951, &NO_SLOTS)
-}
 
 // Pieces out of range are declined and alter nothing.
 const RANGES: [Call; 12] = [
@@ -137,20 +121,12 @@ const RANGES: [Call; 12] = [
     Call::Count,
 ];
 
-pub fn try_ranges(rt: &HostRuntime, settings: Settings) -> anyhow::Result<()> {
-    tried(rt, settings, 1, 3952, &RANGES)
-}
-
 // There are at most 16 slots.
 const SIXTEEN: [Call; 3] = [
     Call::First(1, 1, 1, 0x01),
     Call::First(2, 1, 1, 0x01),
     Call::Count,
 ];
-
-pub fn try_sixteen(rt: &HostRuntime, settings: Settings) -> anyhow::Result<()> {
-    tried(rt, settings, 18, 67184, &SIXTEEN)
-}
 
 // The longest unit: 16 pieces of 247.
 const LONGEST: [Call; 19] = [
@@ -174,10 +150,6 @@ const LONGEST: [Call; 19] = [
     Call::Copy(0, 3952),
     Call::Release(0),
 ];
-
-pub fn try_longest(rt: &HostRuntime, settings: Settings) -> anyhow::Result<()> {
-    tried(rt, settings, 1, 3952, &LONGEST)
-}
 
 // A unit of 16 pieces of 255 would be longer than a stretch: up to 3,952 octets are taken, one more is broken.
 const TOO_LONG: [Call; 34] = [
@@ -217,10 +189,6 @@ const TOO_LONG: [Call; 34] = [
     Call::Count,
 ];
 
-pub fn try_too_long(rt: &HostRuntime, settings: Settings) -> anyhow::Result<()> {
-    tried(rt, settings, 1, 3952, &TOO_LONG)
-}
-
 // A restart gives the time anew, and a piece that is held does not.
 const RENEWED: [Call; 14] = [
     Call::First(1, 1, 4, 0xA1),
@@ -239,10 +207,6 @@ const RENEWED: [Call; 14] = [
     Call::Later(1, 0, 3, 0xB3),
 ];
 
-pub fn try_renewed(rt: &HostRuntime, settings: Settings) -> anyhow::Result<()> {
-    tried(rt, settings, 1, 3952, &RENEWED)
-}
-
 // The limit is by the first piece: later ones may be longer while the sum is within.
 const SHORT_LATER: [Call; 11] = [
     Call::First(1, 2, 4, 0x01),
@@ -258,6 +222,16 @@ const SHORT_LATER: [Call; 11] = [
     Call::Later(2, 1, 4, 0x09),
 ];
 
-pub fn try_short_later(rt: &HostRuntime, settings: Settings) -> anyhow::Result<()> {
+// Each case with its records and its store.
+pub fn all(rt: &HostRuntime, settings: Settings) -> anyhow::Result<()> {
+    tried(rt, settings, 1, 3952, &ONE_SLOT)?;
+    tried(rt, settings, 3, 8004, &TWO_SLOTS)?;
+    tried(rt, settings, 4, 15808, &MIXED)?;
+    tried(rt, settings, 1, 3951, &NO_SLOTS)?;
+    tried(rt, settings, 1, 3952, &RANGES)?;
+    tried(rt, settings, 18, 67184, &SIXTEEN)?;
+    tried(rt, settings, 1, 3952, &LONGEST)?;
+    tried(rt, settings, 1, 3952, &TOO_LONG)?;
+    tried(rt, settings, 1, 3952, &RENEWED)?;
     tried(rt, settings, 1, 3952, &SHORT_LATER)
 }

@@ -1,4 +1,5 @@
 // Settings, marks, and the timed table at references.
+use crate::bench::say_refused;
 use slots::{Mark, Reference, Settings, StationMark};
 use timed_table::entry::Entry;
 use timed_table::lent::TimedTable;
@@ -10,76 +11,34 @@ fn settings(rt: &HostRuntime, code: u16, ticks: u8) -> anyhow::Result<()> {
             let ticks = s.ticks();
             println!(rt; "settings {code} {ticks}")?
         }
-        Err(why) => {
-            let number = why.number();
-            println!(rt; "refused {number}: {why}")?
-        }
+        Err(why) => say_refused(rt, why.number(), &why)?,
     }
     Ok(())
 }
 
 fn same(rt: &HostRuntime, a: Option<StationMark>, b: Option<StationMark>) -> anyhow::Result<()> {
-    let Some(a) = a else {
+    let (Some(a), Some(b)) = (a, b) else {
         println!(rt; "no mark")?;
         return Ok(());
     };
-    match b {
-        Some(b) => {
-            let same = a.same(&b);
-            println!(rt; "same {same}")?
-        }
-        None => println!(rt; "no mark")?,
-    }
+    let same = a.same(&b);
+    println!(rt; "same {same}")?;
     Ok(())
 }
 
 fn marks(rt: &HostRuntime) -> anyhow::Result<()> {
     let long = [0x42u8; 33];
-    same(
-        rt,
-        StationMark::new(1, 8, b"\x42\x06", 7),
-        StationMark::new(1, 8, b"\x42\x06", 7),
-    )?;
-    same(
-        rt,
-        StationMark::new(1, 8, b"\x42\x06", 7),
-        StationMark::new(2, 8, b"\x42\x06", 7),
-    )?;
-    same(
-        rt,
-        StationMark::new(1, 8, b"\x42\x06", 7),
-        StationMark::new(1, 9, b"\x42\x06", 7),
-    )?;
-    same(
-        rt,
-        StationMark::new(1, 8, b"\x42\x06", 7),
-        StationMark::new(1, 8, b"\x42\x07", 7),
-    )?;
-    same(
-        rt,
-        StationMark::new(1, 8, b"\x42\x06", 7),
-        StationMark::new(1, 8, b"\x42\x06\x00", 7),
-    )?;
-    same(
-        rt,
-        StationMark::new(1, 8, b"\x42\x06", 7),
-        StationMark::new(1, 8, b"\x42\x06", 8),
-    )?;
-    same(
-        rt,
-        StationMark::new(1, 8, &long[0..32], 7),
-        StationMark::new(1, 8, &long[0..32], 7),
-    )?;
-    same(
-        rt,
-        StationMark::new(1, 8, &long, 7),
-        StationMark::new(1, 8, b"\x42\x06", 7),
-    )?;
-    same(
-        rt,
-        StationMark::new(1, 8, b"\x42\x06", 7),
-        StationMark::new(1, 8, b"\x42", 7),
-    )?;
+    let one = StationMark::new(1, 8, b"\x42\x06", 7);
+    let longest = StationMark::new(1, 8, &long[0..32], 7);
+    same(rt, one, one)?;
+    same(rt, one, StationMark::new(2, 8, b"\x42\x06", 7))?;
+    same(rt, one, StationMark::new(1, 9, b"\x42\x06", 7))?;
+    same(rt, one, StationMark::new(1, 8, b"\x42\x07", 7))?;
+    same(rt, one, StationMark::new(1, 8, b"\x42\x06\x00", 7))?;
+    same(rt, one, StationMark::new(1, 8, b"\x42\x06", 8))?;
+    same(rt, longest, longest)?;
+    same(rt, StationMark::new(1, 8, &long, 7), one)?;
+    same(rt, one, StationMark::new(1, 8, b"\x42", 7))?;
     let one = Reference { number: 7 };
     let again = one.same(&Reference { number: 7 });
     let other = one.same(&Reference { number: 8 });

@@ -16,20 +16,20 @@ fn calls(
         here,
         &[Call::First(1, 1, 1, 0xA1), Call::Later(1, 0, 1, 0xA2)],
     )?;
-    bench::copy(rt, there, here, 0, 2)?;
+    bench::copy(rt, here.receipt(0), 2, |r, to| there.copy(r, to))?;
     bench::say_offered(rt, here.offer_to(0, there))?;
-    bench::copy_from(rt, empty, here.receipt(0), 2)?;
+    bench::copy(rt, here.receipt(0), 2, |r, to| empty.copy(r, to))?;
     bench::say_offered(rt, here.offer(0, empty))?;
     bench::run(
         rt,
         there,
         &[Call::First(1, 1, 1, 0xB1), Call::Later(1, 0, 1, 0xB2)],
     )?;
-    bench::copy(rt, there, here, 0, 2)?;
-    bench::copy(rt, here, there, 0, 2)?;
+    bench::copy(rt, here.receipt(0), 2, |r, to| there.copy(r, to))?;
+    bench::copy(rt, there.receipt(0), 2, |r, to| here.copy(r, to))?;
     bench::say_offered(rt, there.offer_to(0, here))?;
-    bench::copy_own(rt, here, 0, 2)?;
-    bench::copy_own(rt, there, 0, 2)?;
+    bench::copy(rt, here.receipt(0), 2, |r, to| here.copy(r, to))?;
+    bench::copy(rt, there.receipt(0), 2, |r, to| there.copy(r, to))?;
     bench::release(rt, here, 0)
 }
 
@@ -38,9 +38,7 @@ pub fn receipts(rt: &HostRuntime, settings: Settings) -> anyhow::Result<()> {
     let mut one = bench::octets(rt.alloc(), 3952)?;
     let mut two = bench::octets(rt.alloc(), 3952)?;
     let mut three = bench::octets(rt.alloc(), 3952)?;
-    let Ok(other) = Settings::new(8, 10) else {
-        return Ok(());
-    };
+    let other = Settings::new(8, 10)?;
     let mut records: [Entry<Reference, Load>; 1] = [Entry::Free];
     let mut more: [Entry<Reference, Load>; 1] = [Entry::Free];
     let mut last: [Entry<Reference, Load>; 1] = [Entry::Free];
