@@ -163,6 +163,7 @@ impl<'a, K: Mark + Drop> KeptReceipts<'a, K> {
             return None;
         }
         let receipt = self.receipts.remove(place);
+        // Stays: `map_err` would lend the receipts to a closure, and the proof then loses them where it is not called.
         match other.release(receipt) {
             Ok(()) => Some(Ok(())),
             Err((why, back)) => {

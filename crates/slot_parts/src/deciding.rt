@@ -77,6 +77,7 @@ fn grown(load: Load, remaining: u8, len: usize) -> Load
     }
 }
 
+// Stays: one match on slot state and piece together is a form that was asked for.
 // The state of the slot and the arriving piece decide together. For slots, which know the piece to be in range and keep their loads within bounds.
 pub fn decide(found: Option<OpenSlot>, first: bool, remaining: u8, len: usize) -> Step
     requires { (remaining ≤ 15) × ((len ≤ 255) × (Within found)) }

@@ -1,5 +1,6 @@
 -- The numbers that the two kinds of mark mean.
-use Rattle.std.specs.Prelude.{◌≡◌, ℕ, List, [], ◌∷◌, ◌++◌, take}
+use Rattle.std.specs.Prelude.{◌≡◌, ℕ, List, [], ◌∷◌, ◌++◌}
+use Rattle.octets.specs.Short.{short_octets}
 use Rattle.timed_table.specs.declared.reference.Reference.{Reference}
 use Rattle.timed_table.specs.declared.station_mark.StationMark.{StationMark}
 
@@ -8,7 +9,7 @@ reference_numbers m = m.number ∷ []
 
 -- the octets of the calling address
 abbrev pub calling_of : StationMark → List ℕ
-calling_of m = take m.len m.calling
+calling_of m = short_octets m.calling
 
 -- origin, subsystem here, the octets of the calling address, reference
 abbrev pub station_numbers : StationMark → List ℕ

@@ -21,6 +21,7 @@ pub(crate) fn last_free<K, V>(entries: &[Entry<K, V>]) -> Option<usize>
 }
 
 // How many entries are timed, counted from the entries themselves.
+// Stays: a `for` loop that counts the open entries is a form that was asked for.
 pub(crate) fn count_timed<K, V>(entries: &[Entry<K, V>]) -> usize
     ensures { result ≡ count_by is_timed entries.now }
 {
@@ -34,6 +35,7 @@ pub(crate) fn count_timed<K, V>(entries: &[Entry<K, V>]) -> usize
 }
 
 // One tick of every entry; how many lapsed.
+// Stays: a filter that also ticks what it counts would be a loop with a hidden change, and no plainer.
 pub(crate) fn tick_all<K: Drop, V: Drop>(entries: &mut [Entry<K, V>]) -> usize
     ensures after { entries.new ≡ map ticked entries.old }
     ensures value { result ≡ count_by lapses entries.old }

@@ -4,7 +4,8 @@ ghost use Rattle.timed_table.specs.StationMarks.{reference_numbers, station_numb
 
 use crate::mark::Mark;
 use crate::reference::Reference;
-use crate::station_mark::{ADDRESS_LEAST, ADDRESS_MOST, StationMark};
+use crate::station_mark::{ADDRESS_LEAST, StationMark};
+use octets::ShortOctets;
 
 // Whether two slices hold the same octets.
 fn same_octets(a: &[u8], b: &[u8]) -> bool
@@ -35,17 +36,14 @@ impl StationMark {
         ensures some { is_some result ≡ not (nat_lt (length calling.now) 2 || nat_lt 32 (length calling.now)) }
         ensures value { IfSome result (λ m. station_numbers m ≡ opc ∷ subsystem ∷ (calling.now ++ (reference ∷ []))) }
     {
-        let n = calling.len();
-        if n < ADDRESS_LEAST || n > ADDRESS_MOST {
+        if calling.len() < ADDRESS_LEAST {
             return None;
         }
-        let mut octets = [0u8; 32];
-        octets[0..n].copy_from_slice(calling);
+        let calling = ShortOctets::new(calling)?;
         Some(StationMark {
             opc,
             subsystem,
-            calling: octets,
-            len: n as u8,
+            calling,
             reference,
         })
     }
@@ -58,8 +56,8 @@ impl Mark for StationMark {
         self.opc == other.opc
             && self.subsystem == other.subsystem
             && same_ends(
-                &self.calling[0..self.len as usize],
-                &other.calling[0..other.len as usize],
+                self.calling.octets(),
+                other.calling.octets(),
                 self.reference,
                 other.reference,
             )

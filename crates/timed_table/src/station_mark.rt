@@ -1,4 +1,7 @@
-ghost use Rattle.std.specs.Prelude.{◌≤◌};
+ghost use Rattle.std.specs.Prelude.{◌≤◌, length};
+ghost use Rattle.octets.specs.Short.{short_octets};
+
+use octets::ShortOctets;
 
 // An address has at least so many octets, and at most so many.
 pub const ADDRESS_LEAST: usize = 2;
@@ -11,9 +14,7 @@ pub const ADDRESS_MOST: usize = 32;
 pub struct StationMark {
     pub(crate) opc: u16,
     pub(crate) subsystem: u8,
-    pub(crate) calling: [u8; 32],
-    pub(crate) len: u8,
+    pub(crate) calling: ShortOctets<ADDRESS_MOST>,
     pub(crate) reference: u32,
-    ghost long: { 2 ≤ len },
-    ghost short: { len ≤ 32 },
+    ghost long: { 2 ≤ length (short_octets calling) },
 }
