@@ -63,6 +63,11 @@ abbrev pub route_given : Result Route Cause → Result RouteView Cause
 route_given (Ok r) = Ok (route_seen r)
 route_given (Err c) = Err c
 
+-- the message can go this way: a trial finds no cause against it
+abbrev pub CanGo : (ℕ → CodeState) → (ℕ → ℕ → SubsystemState) → ℕ → Result RouteView Cause → Type 0
+CanGo codes subsystems own (Ok r) = trial_of codes subsystems own r.routing r.code r.subsystem ≡ None
+CanGo codes subsystems own (Err c) = Unit {0}
+
 -- the destination's subsystem, else the address's
 abbrev pub taken_subsystem : Option ℕ → Option ℕ → Option ℕ
 taken_subsystem (Some s) given = Some s

@@ -1,5 +1,5 @@
 -- Whether a destination can take a message: none of the causes, or the first in order.
-use Rattle.std.specs.Prelude.{ℕ, cond, Some, None, Option, ◌==◌}
+use Rattle.std.specs.Prelude.{ℕ, cond, Some, None, Ok, Err, Option, Result, ◌==◌}
 use Rattle.translation.specs.declared.causes.Cause.{Cause}
 use Rattle.translation.specs.declared.causes.Cause.TheVariants.{NoTranslation, SubsystemFailure, UnequippedUser, TransferFailure, SccpFailure}
 use Rattle.translation.specs.declared.rules.Routing.{Routing}
@@ -43,3 +43,8 @@ first_cause (Some c) later = Some c
 -- first the code, then what is routed on there
 abbrev pub trial_of : (ℕ → CodeState) → (ℕ → ℕ → SubsystemState) → ℕ → Routing → ℕ → Option ℕ → Option Cause
 trial_of state subsystem own routing code s = first_cause (code_trial state own code) (routing_trial subsystem own routing code s)
+
+-- where there is no cause against it, it passes
+abbrev pub passes : Option Cause → Result (Unit {0}) Cause
+passes None = Ok tt
+passes (Some c) = Err c

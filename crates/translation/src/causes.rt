@@ -1,21 +1,32 @@
 ghost use Rattle.std.specs.Prelude.{◌≡◌};
 ghost use Rattle.translation.specs.Causes.{cause_number};
 
-use std::fmt;
+use thiserror::Error;
 
-// Why a message cannot be brought to where its called address says: the return cause.
-#[derive(Clone, Copy, PartialEq, Eq, Debug)]
+// Why a message cannot be brought to where its called address says: the return cause, with the
+// number that stands for it in a message that returns.
+#[derive(Clone, Copy, PartialEq, Eq, Debug, Error)]
 pub enum Cause {
-    NoTranslationOfNature,
-    NoTranslation,
-    SubsystemFailure,
-    UnequippedUser,
-    TransferFailure,
-    NetworkCongestion,
-    Unqualified,
-    NoReassembly,
-    SccpFailure,
-    HopCounterViolation,
+    #[error("no translation for an address of such nature")]
+    NoTranslationOfNature = 0,
+    #[error("no translation for this specific address")]
+    NoTranslation = 1,
+    #[error("subsystem failure")]
+    SubsystemFailure = 3,
+    #[error("unequipped user")]
+    UnequippedUser = 4,
+    #[error("message transfer failure")]
+    TransferFailure = 5,
+    #[error("network congestion")]
+    NetworkCongestion = 6,
+    #[error("unqualified")]
+    Unqualified = 7,
+    #[error("destination cannot perform reassembly")]
+    NoReassembly = 10,
+    #[error("SCCP failure")]
+    SccpFailure = 11,
+    #[error("hop counter violation")]
+    HopCounterViolation = 12,
 }
 
 impl Cause {
@@ -23,35 +34,6 @@ impl Cause {
     pub fn number(self) -> u8
         ensures { result ≡ cause_number self }
     {
-        match self {
-            Cause::NoTranslationOfNature => 0,
-            Cause::NoTranslation => 1,
-            Cause::SubsystemFailure => 3,
-            Cause::UnequippedUser => 4,
-            Cause::TransferFailure => 5,
-            Cause::NetworkCongestion => 6,
-            Cause::Unqualified => 7,
-            Cause::NoReassembly => 10,
-            Cause::SccpFailure => 11,
-            Cause::HopCounterViolation => 12,
-        }
-    }
-}
-
-impl fmt::Display for Cause {
-    fn fmt<W: fmt::Write>(&self, f: &mut fmt::Formatter<W>) -> fmt::Result {
-        let words = match *self {
-            Cause::NoTranslationOfNature => "no translation for an address of such nature",
-            Cause::NoTranslation => "no translation for this specific address",
-            Cause::SubsystemFailure => "subsystem failure",
-            Cause::UnequippedUser => "unequipped user",
-            Cause::TransferFailure => "message transfer failure",
-            Cause::NetworkCongestion => "network congestion",
-            Cause::Unqualified => "unqualified",
-            Cause::NoReassembly => "destination cannot perform reassembly",
-            Cause::SccpFailure => "SCCP failure",
-            Cause::HopCounterViolation => "hop counter violation",
-        };
-        write!(f, "{words}")
+        self as u8
     }
 }

@@ -15,33 +15,28 @@ const KIND_WITH_ALL: u8 = 4;
 pub fn selector_of(address: Address<'_>) -> Option<Selector>
     ensures { result ≡ title_selector (title_in address.entry.octets.now) }
 {
-    match address.title() {
-        Some(
-            Title::Kind2 {
-                translation_type,
-                digits: _,
-            },
-        ) => Some(Selector {
+    match address.title()? {
+        Title::Kind2 {
+            translation_type,
+            ..
+        } => Some(Selector {
             kind: KIND_WITH_TYPE,
             translation_type,
             numbering_plan: 0,
             nature: 0,
         }),
-        Some(
-            Title::Kind4 {
-                translation_type,
-                numbering_plan,
-                encoding: _,
-                nature,
-                digits: _,
-            },
-        ) => Some(Selector {
+        Title::Kind4 {
+            translation_type,
+            numbering_plan,
+            nature,
+            ..
+        } => Some(Selector {
             kind: KIND_WITH_ALL,
             translation_type,
             numbering_plan,
             nature,
         }),
-        _ => None,
+        Title::Other { .. } => None,
     }
 }
 
@@ -49,20 +44,14 @@ pub fn selector_of(address: Address<'_>) -> Option<Selector>
 pub fn rule_for<X: Translator>(translator: &X, address: Address<'_>) -> Result<Rule, Cause>
     ensures { rule_given result ≡ rule_for (X.known translator.now) (X.fit translator.now) (title_in address.entry.octets.now) }
 {
-    let Some(selector) = selector_of(address) else {
-        return Err(Cause::NoTranslationOfNature);
-    };
+    let selector = selector_of(address).ok_or(Cause::NoTranslationOfNature)?;
     if !translator.knows(selector) {
         return Err(Cause::NoTranslationOfNature);
     }
-    let Some(title) = address.title() else {
-        return Err(Cause::NoTranslation);
-    };
-    let Some(digits) = title.digits() else {
-        return Err(Cause::NoTranslation);
-    };
-    match translator.rule(selector, digits.as_slice()) {
-        Some(rule) => Ok(rule),
-        None => Err(Cause::NoTranslation),
-    }
+    let digits = address
+        .title()
+        .and_then(|title| title.digits())
+        .ok_or(Cause::NoTranslation)?;
+    let rule = translator.rule(selector, digits.as_slice());
+    rule.ok_or(Cause::NoTranslation)
 }

@@ -1,7 +1,7 @@
 ghost use Rattle.std.specs.Prelude.{◌≡◌};
 ghost use Rattle.address.specs.Code.{code_number};
 ghost use Rattle.translation.specs.Rules.{destination_seen, rule_seen};
-ghost use Rattle.translation.specs.Translating.{route_given, route_tried, route_to, route_by};
+ghost use Rattle.translation.specs.Translating.{route_given, route_tried, route_to, route_by, CanGo};
 
 use crate::causes::Cause;
 use crate::meanings::Availability;
@@ -26,20 +26,16 @@ impl Destination {
         routing: Routing,
         given: Option<u8>,
     ) -> Result<Route, Cause>
-        ensures { route_given result ≡ route_tried (V.codes availability.now) (V.subsystems availability.now) (code_number own) (route_to routing (destination_seen self) given) }
+        ensures value { route_given result ≡ route_tried (V.codes availability.now) (V.subsystems availability.now) (code_number own) (route_to routing (destination_seen self) given) }
+        ensures tried { CanGo (V.codes availability.now) (V.subsystems availability.now) (code_number own) (route_given result) }
     {
-        let subsystem = match self.subsystem {
-            Some(number) => Some(number),
-            None => given,
-        };
-        match trials::trial(availability, own, routing, self.code, subsystem) {
-            Some(cause) => Err(cause),
-            None => Ok(Route {
-                code: self.code,
-                routing,
-                subsystem,
-            }),
-        }
+        let subsystem = self.subsystem.or(given);
+        trials::trial(availability, own, routing, self.code, subsystem)?;
+        Ok(Route {
+            code: self.code,
+            routing,
+            subsystem,
+        })
     }
 }
 
@@ -51,17 +47,14 @@ pub fn route_by<V: Availability>(
     rule: Rule,
     given: Option<u8>,
 ) -> Result<Route, Cause>
-    ensures { route_given result ≡ route_by (V.codes availability.now) (V.subsystems availability.now) (code_number own) (rule_seen rule) given }
+    ensures value { route_given result ≡ route_by (V.codes availability.now) (V.subsystems availability.now) (code_number own) (rule_seen rule) given }
+    ensures tried { CanGo (V.codes availability.now) (V.subsystems availability.now) (code_number own) (route_given result) }
 {
-    let cause = match rule.primary.route(availability, own, rule.routing, given) {
-        Ok(route) => return Ok(route),
-        Err(cause) => cause,
-    };
-    let Some(backup) = rule.backup else {
-        return Err(cause);
-    };
-    match backup.route(availability, own, rule.routing, given) {
-        Ok(route) => Ok(route),
-        Err(_) => Err(cause),
+    let primary = rule.primary.route(availability, own, rule.routing, given);
+    match (primary, rule.backup) {
+        (Err(cause), Some(backup)) => backup
+            .route(availability, own, rule.routing, given)
+            .map_err(|_| cause),
+        _ => primary,
     }
 }

@@ -4,8 +4,10 @@ use address::PointCode;
 // numbering plan and nature of address. What a kind of title does not have is 0.
 #[derive(Clone, Copy, PartialEq, Eq, Debug)]
 pub struct Selector {
+    // Stays: a number and no enum, since an entry of a lent table may hold any.
     pub kind: u8,
     pub translation_type: u8,
+    // Stays: plan and nature are not narrower for the same reason; out of range they fit nothing.
     pub numbering_plan: u8,
     pub nature: u8,
 }

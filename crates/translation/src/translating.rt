@@ -2,7 +2,7 @@ ghost use Rattle.std.specs.Prelude.{◌≡◌};
 ghost use Rattle.address.specs.Code.{code_number};
 ghost use Rattle.address.specs.Rewrite.{buffer_found, rewritten};
 ghost use Rattle.address.specs.declared.rewriting.CodeChange.TheVariants.{Remove as WithoutCode};
-ghost use Rattle.translation.specs.Translating.{is_on_subsystem, route_for, route_given, translate_of, translation_given, CanBeGone};
+ghost use Rattle.translation.specs.Translating.{is_on_subsystem, route_for, route_given, translate_of, translation_given, CanBeGone, CanGo};
 
 use crate::causes::Cause;
 use crate::meanings::{Availability, Translator};
@@ -25,10 +25,7 @@ impl Route {
     pub fn called(self, address: Address<'_>) -> Option<AddressBuffer>
         ensures { buffer_found result ≡ rewritten (is_on_subsystem self.routing) WithoutCode self.subsystem address.entry.octets.now }
     {
-        let on_subsystem = match self.routing {
-            Routing::OnSubsystem => true,
-            Routing::OnTitle => false,
-        };
+        let on_subsystem = self.routing == Routing::OnSubsystem;
         address.rewritten(on_subsystem, CodeChange::Remove, self.subsystem)
     }
 }
@@ -40,16 +37,16 @@ pub fn route_for<X: Translator, V: Availability>(
     own: PointCode,
     address: Address<'_>,
 ) -> Result<Route, Cause>
-    ensures { route_given result ≡ route_for (X.known translator.now) (X.fit translator.now) (V.codes availability.now) (V.subsystems availability.now) (code_number own) address.entry.octets.now }
+    ensures value { route_given result ≡ route_for (X.known translator.now) (X.fit translator.now) (V.codes availability.now) (V.subsystems availability.now) (code_number own) address.entry.octets.now }
+    ensures tried { CanGo (V.codes availability.now) (V.subsystems availability.now) (code_number own) (route_given result) }
 {
-    match finding::rule_for(translator, address) {
-        Ok(rule) => routes::route_by(availability, own, rule, address.subsystem()),
-        Err(cause) => Err(cause),
-    }
+    let rule = finding::rule_for(translator, address)?;
+    routes::route_by(availability, own, rule, address.subsystem())
 }
 
 // Translates a called address: where the message goes, and its new called address; or the
 // cause why it can go nowhere.
+// Stays: the two tables are told apart here; a station's go together as one value in crate routing.
 pub fn translate<X: Translator, V: Availability>(
     translator: &X,
     availability: &V,
@@ -63,8 +60,6 @@ pub fn translate<X: Translator, V: Availability>(
         return Err(Cause::NoTranslationOfNature);
     }
     let route = route_for(translator, availability, own, address)?;
-    match route.called(address) {
-        Some(called) => Ok(Translation { route, called }),
-        None => Err(Cause::NoTranslation),
-    }
+    let called = route.called(address).ok_or(Cause::NoTranslation)?;
+    Ok(Translation { route, called })
 }
