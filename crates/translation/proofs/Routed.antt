@@ -3,7 +3,7 @@ use Rattle.std.proofs.Common.{◌≡◌, ℕ, ◌≤◌, Bool, true, false, cond
 use Rattle.std.proofs.lemmas.Bool.{false≢true, cond-true, and_from, le-leb}
 use Rattle.address.specs.Address.{address_ok, indicator, title_kind, subsystem_of, title_in}
 use Rattle.address.specs.Rewrite.{rewrite, rewritten, title_part, subsystem_as, buffer_found}
-use Rattle.address.specs.declared.buffers.AddressBuffer.{AddressBuffer}
+use Rattle.octets.specs.declared.short.ShortOctets.{ShortOctets}
 use Rattle.address.specs.Title.{GlobalTitle, title_of}
 use Rattle.address.specs.declared.rewriting.CodeChange.TheVariants.{Remove}
 use Rattle.translation.specs.declared.rules.Selector.{Selector}
@@ -47,11 +47,11 @@ rewritten_there on s a ok h =
     let x = rewrite on Remove s a in
     cond-true (address_ok a && leb 2 (length x)) (Some x) None (and_from (address_ok a) (leb 2 (length x)) ok (le-leb 2 (length x) (rewrite_long on s a (title_in_there a h))))
 
-there : (b : Option AddressBuffer) (x : Option (List ℕ)) → buffer_found b ≡ x → is_some x ≡ true → is_some b ≡ true
+there : (b : Option (ShortOctets 32)) (x : Option (List ℕ)) → buffer_found b ≡ x → is_some x ≡ true → is_some b ≡ true
 there None x e h = ap is_some e ∙ h
 there (Some b) x e h = refl
 
 -- so what is routed has a called address
-pub called_there : (known : Selector → Bool) (fit : Selector → List ℕ → Option RuleView) (codes : ℕ → CodeState) (subsystems : ℕ → ℕ → SubsystemState) (own : ℕ) (a : List ℕ) (r : RouteView) (b : Option AddressBuffer) → address_ok a ≡ true → Ok r ≡ route_for known fit codes subsystems own a → buffer_found b ≡ rewritten (is_on_subsystem r.routing) Remove r.subsystem a → is_some b ≡ true
+pub called_there : (known : Selector → Bool) (fit : Selector → List ℕ → Option RuleView) (codes : ℕ → CodeState) (subsystems : ℕ → ℕ → SubsystemState) (own : ℕ) (a : List ℕ) (r : RouteView) (b : Option (ShortOctets 32)) → address_ok a ≡ true → Ok r ≡ route_for known fit codes subsystems own a → buffer_found b ≡ rewritten (is_on_subsystem r.routing) Remove r.subsystem a → is_some b ≡ true
 called_there known fit codes subsystems own a r b ok h e =
     there b _ e (ap is_some (rewritten_there (is_on_subsystem r.routing) r.subsystem a ok (titled known fit codes subsystems own (subsystem_of a) r (title_in a) h)))

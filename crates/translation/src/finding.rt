@@ -52,6 +52,6 @@ pub fn rule_for<X: Translator>(translator: &X, address: Address<'_>) -> Result<R
         .title()
         .and_then(|title| title.digits())
         .ok_or(Cause::NoTranslation)?;
-    let rule = translator.rule(selector, digits.as_slice());
+    let rule = translator.rule(selector, digits.octets());
     rule.ok_or(Cause::NoTranslation)
 }

@@ -16,7 +16,7 @@ pub fn code_trial<V: Availability>(
 ) -> Result<(), Cause>
     ensures { result ≡ passes (code_trial (V.codes availability.now) (code_number own) (code_number code)) }
 {
-    if code.number() == own.number() {
+    if code == own {
         return Ok(());
     }
     match availability.code_state(code) {
@@ -58,7 +58,7 @@ pub fn trial<V: Availability>(
     code_trial(availability, own, code)?;
     match routing {
         Routing::OnSubsystem => subsystem_trial(availability, code, subsystem),
-        Routing::OnTitle if code.number() == own.number() => Err(Cause::NoTranslation),
+        Routing::OnTitle if code == own => Err(Cause::NoTranslation),
         Routing::OnTitle => Ok(()),
     }
 }
