@@ -1,4 +1,3 @@
 pub mod Fronts
-pub mod Steps
 pub mod Ranges
 pub mod Choosing

@@ -1,25 +1,29 @@
 -- Which entry of a prefix list fits the digits of a title, and which of those decides.
-use Rattle.std.specs.Prelude.{ℕ, Bool, true, false, cond, ◌&&◌, ◌||◌, List, [], ◌∷◌, take, is_some, Some, None, fold, Option, ◌==◌, nat_le, nat_lt}
+use Rattle.std.specs.Prelude.{◌≡◌, ℕ, ◌<◌, ◌≤◌, Bool, cond, ◌&&◌, ◌||◌, List, take, is_some, Some, None, fold, Option, ◌==◌, nat_le, nat_lt}
+use Rattle.std.specs.List.{list_all, list_any, starts_with}
+use denote.Ref.{Bor}
 use Rattle.translation.specs.declared.rules.Selector.{Selector}
 use Rattle.translation.specs.Rules.{DestinationView, RuleView}
 use Rattle.prefix_list.specs.declared.entries.EntryDestination.{EntryDestination}
 use Rattle.prefix_list.specs.declared.entries.PrefixEntry.{PrefixEntry}
 
 abbrev pub all_below : ℕ → List ℕ → Bool
-all_below n [] = true
-all_below n (d ∷ ds) = nat_lt d n && all_below n ds
+all_below n ds = list_all (λ d. nat_lt d n) ds
 
 -- the second list begins with the first
 abbrev pub begins : List ℕ → List ℕ → Bool
-begins [] ds = true
-begins (p ∷ ps) [] = false
-begins (p ∷ ps) (d ∷ ds) = p == d && begins ps ds
+begins p ds = starts_with ◌==◌ ds p
 
 abbrev pub same_selector : Selector → Selector → Bool
 same_selector a b = a.kind == b.kind && (a.translation_type == b.translation_type && (a.numbering_plan == b.numbering_plan && a.nature == b.nature))
 
 abbrev pub prefix_of : PrefixEntry → List ℕ
 prefix_of e = take e.count e.digits
+
+-- the digits as a slice of the entry, none where it cannot have so many
+abbrev pub prefix_found : PrefixEntry → Option (Bor (List ℕ)) → Type 0
+prefix_found e None = 16 < e.count
+prefix_found e (Some p) = (e.count ≤ 16) × (p.now ≡ prefix_of e)
 
 abbrev pub selector_ranged : Selector → Bool
 selector_ranged s = (s.kind == 2 || s.kind == 4) && (nat_lt s.numbering_plan 16 && nat_lt s.nature 128)
@@ -67,5 +71,4 @@ rule_of (Some e) = entry_rule e
 
 -- every entry's selector is known, also that of an entry that fits nothing
 abbrev pub any_of : Selector → List PrefixEntry → Bool
-any_of s [] = false
-any_of s (e ∷ es) = same_selector e.selector s || any_of s es
+any_of s es = list_any (λ e. same_selector e.selector s) es

@@ -9,10 +9,6 @@ use translation::{Destination, Routing, Rule, Selector, Translator};
 
 const DECIMAL: u8 = 10;
 
-const MOST_CODE: u32 = 16_383;
-
-const MOST_SUBSYSTEM: u32 = 255;
-
 // The translator of a test bench. It knows one selector; eight decimal digits, five for the
 // code and three for the subsystem, give a rule on subsystem without backup.
 #[derive(Clone, Copy)]
@@ -24,25 +20,23 @@ pub struct BenchPlan {
 fn planned(digits: &[u8]) -> Option<Destination>
     ensures { backup_seen result ≡ plan_destination digits.now }
 {
-    let [a, b, c, d, e, f, g, h] = digits else {
+    let &[a, b, c, d, e, f, g, h] = digits else {
         return None;
     };
     if !digits::all_below(digits, DECIMAL) {
         return None;
     }
-    let code = 10_000 * *a as u32
-        + 1_000 * *b as u32
-        + 100 * *c as u32
-        + 10 * *d as u32
-        + *e as u32;
-    let subsystem = 100 * *f as u32 + 10 * *g as u32 + *h as u32;
-    if code > MOST_CODE || subsystem > MOST_SUBSYSTEM {
-        return None;
-    }
-    let code = PointCode::new(code as u16)?;
+    let code = 10_000 * u32::from(a)
+        + 1_000 * u32::from(b)
+        + 100 * u32::from(c)
+        + 10 * u32::from(d)
+        + u32::from(e);
+    let subsystem = 100 * u32::from(f) + 10 * u32::from(g) + u32::from(h);
+    let code = PointCode::new(u16::try_from(code).ok()?)?;
+    let subsystem = u8::try_from(subsystem).ok()?;
     Some(Destination {
         code,
-        subsystem: Some(subsystem as u8),
+        subsystem: Some(subsystem),
     })
 }
 

@@ -1,12 +1,10 @@
 ghost use Rattle.std.specs.Prelude.{◌≡◌};
 ghost use Rattle.translation.specs.Rules.{rule_found, backup_seen};
-ghost use Rattle.prefix_list.specs.Prefixes.{destination_in, prefix_ranged, same_selector, selector_ranged, entry_rule, entry_fits};
+ghost use Rattle.prefix_list.specs.Prefixes.{destination_in, prefix_found, prefix_ranged, same_selector, selector_ranged, entry_rule, entry_fits};
 
 use crate::digits;
 use address::PointCode;
 use translation::{Destination, Routing, Rule, Selector};
-
-const MOST_DIGITS: u8 = 16;
 
 const DIGITS: u8 = 16;
 
@@ -26,6 +24,7 @@ pub struct EntryDestination {
 #[derive(Clone, Copy)]
 pub struct PrefixEntry {
     pub selector: Selector,
+    // Stays: a count beside the digits, since a lent table may hold any count.
     pub count: u8,
     pub digits: [u8; 16],
     pub routing: Routing,
@@ -37,9 +36,7 @@ pub struct PrefixEntry {
 fn selector_ranged(selector: Selector) -> bool
     ensures { result ≡ selector_ranged selector }
 {
-    (selector.kind == 2 || selector.kind == 4)
-        && selector.numbering_plan < PLANS
-        && selector.nature < NATURES
+    matches!(selector.kind, 2 | 4) && selector.numbering_plan < PLANS && selector.nature < NATURES
 }
 
 impl EntryDestination {
@@ -47,13 +44,11 @@ impl EntryDestination {
     fn ranged(self) -> Option<Destination>
         ensures { backup_seen result ≡ destination_in self }
     {
-        match PointCode::new(self.code) {
-            Some(code) => Some(Destination {
-                code,
-                subsystem: self.subsystem,
-            }),
-            None => None,
-        }
+        let code = PointCode::new(self.code)?;
+        Some(Destination {
+            code,
+            subsystem: self.subsystem,
+        })
     }
 }
 
@@ -65,11 +60,19 @@ impl PrefixEntry {
         self.selector == selector
     }
 
+    // The digits of the entry, where there are at most 16.
+    fn prefix(&self) -> Option<&[u8]>
+        ensures { prefix_found self.now result }
+    {
+        self.digits.get(..usize::from(self.count))
+    }
+
     // Whether there are at most 16 digits, each 0 to 15.
     fn prefix_ranged(&self) -> bool
         ensures { result ≡ prefix_ranged self.now }
     {
-        self.count <= MOST_DIGITS && digits::all_below(&self.digits[0..self.count as usize], DIGITS)
+        self.prefix()
+            .is_some_and(|prefix| digits::all_below(prefix, DIGITS))
     }
 
     // The rule of the entry, where every value is in its range.
@@ -80,6 +83,7 @@ impl PrefixEntry {
             return None;
         }
         let primary = self.primary.ranged()?;
+        // Stays: a backup that is named must be in range too, and `map` cannot hand its None on.
         let backup = match self.backup {
             Some(destination) => Some(destination.ranged()?),
             None => None,
@@ -96,11 +100,10 @@ impl PrefixEntry {
     pub fn fits(&self, selector: Selector, digits: &[u8]) -> bool
         ensures { result ≡ entry_fits selector digits.now self.now }
     {
-        if self.count > MOST_DIGITS {
-            return false;
-        }
         self.rule().is_some()
             && self.is_for(selector)
-            && digits::begin_with(digits, &self.digits[0..self.count as usize])
+            && self
+                .prefix()
+                .is_some_and(|prefix| digits.starts_with(prefix))
     }
 }

@@ -23,16 +23,11 @@ fn better_of(
 ) -> Option<PrefixEntry>
     ensures { result ≡ better selector digits.now best entry.now }
 {
-    if !entry.fits(selector, digits) {
-        return best;
-    }
-    match best {
-        None => Some(*entry),
-        Some(found) => if found.count < entry.count {
-            Some(*entry)
-        } else {
-            Some(found)
-        },
+    let is_longer = best.is_none_or(|found| found.count < entry.count);
+    if is_longer && entry.fits(selector, digits) {
+        Some(*entry)
+    } else {
+        best
     }
 }
 
@@ -44,25 +39,20 @@ impl<'a> PrefixList<'a> {
     }
 
     // The entry that decides for the digits of a title, where one fits.
+    #[tactic(auto, unfolding(crate::specs::Prefixes::longest))]
     pub fn entry_for(&self, selector: Selector, digits: &[u8]) -> Option<PrefixEntry>
         ensures { result ≡ longest selector digits.now self.now.entries.now }
     {
-        let mut best = None;
-        for e in self.entries {
-            best = better_of(best, e, selector, digits);
-        }
-        best
+        self.entries.iter().fold(None, |best, entry| better_of(best, entry, selector, digits))
     }
 
     // The rule for the digits of a title, where one fits.
+    #[tactic(auto, using(crate::proofs::Choosing::longest_decides))]
     pub fn find(&self, selector: Selector, digits: &[u8]) -> Option<Rule>
         ensures value { rule_found result ≡ rule_of (longest selector digits.now self.now.entries.now) }
         ensures law { LongestDecides selector digits.now self.now.entries.now (rule_found result) }
     {
-        match self.entry_for(selector, digits) {
-            Some(entry) => entry.rule(),
-            None => None,
-        }
+        self.entry_for(selector, digits)?.rule()
     }
 }
 
@@ -72,12 +62,7 @@ impl Translator for PrefixList<'_> {
     ghost fit = { λ p s ds. rule_of (longest s ds p.entries.now) };
 
     fn knows(&self, selector: Selector) -> bool {
-        for e in self.entries {
-            if e.is_for(selector) {
-                return true;
-            }
-        }
-        false
+        self.entries.iter().any(|entry| entry.is_for(selector))
     }
 
     fn rule(&self, selector: Selector, digits: &[u8]) -> Option<Rule> {
