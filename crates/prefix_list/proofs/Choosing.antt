@@ -3,7 +3,8 @@ use Rattle.std.proofs.Common.{◌≡◌, ℕ, ◌<◌, ◌≤◌, Bool, true, fa
 use Rattle.std.specs.List.{AllByRecursion}
 use Rattle.std.proofs.ByRecursion.{All-push, All-weaker, All-append}
 use Rattle.std.proofs.lemmas.List.{append-nil, append_assoc}
-use Rattle.std.proofs.lemmas.Bool.{false≢true, ltb-true, ltb-false}
+use Rattle.std.proofs.lemmas.Bool.{false≢true}
+use Rattle.std.proofs.lemmas.Bool.Decides.{nat_tests}
 use Rattle.translation.specs.declared.rules.Selector.{Selector}
 use Rattle.translation.specs.Rules.{RuleView}
 use Rattle.prefix_list.specs.declared.entries.PrefixEntry.{PrefixEntry}
@@ -47,8 +48,8 @@ all_shorter s ds done e x h l =
 
 longer_by : (s : Selector) (ds : List ℕ) (done : List PrefixEntry) (e x : PrefixEntry) → entry_fits s ds x ≡ true → Best s ds done e → (b : Bool) → ltb e.count x.count ≡ b → Chosen s ds (done ++ (x ∷ [])) (cond b (Some x) (Some e))
 longer_by s ds done e x f h true t =
-    record { before = done; behind = []; whole = refl; fits = f; shorter = all_shorter s ds done e x h (ltb-true e.count x.count t); not_longer = tt }
-longer_by s ds done e x f h false t = kept s ds done e x h (λ _. ltb-false e.count x.count t)
+    record { before = done; behind = []; whole = refl; fits = f; shorter = all_shorter s ds done e x h (grind (arith, nat_tests)); not_longer = tt }
+longer_by s ds done e x f h false t = kept s ds done e x h (λ _. grind (arith, nat_tests))
 
 step_by : (s : Selector) (ds : List ℕ) (done : List PrefixEntry) (best : Option PrefixEntry) (x : PrefixEntry) → Chosen s ds done best → (b : Bool) → entry_fits s ds x ≡ b → Chosen s ds (done ++ (x ∷ [])) (cond b (longer_of best x) best)
 step_by s ds done None x h true t =
@@ -88,7 +89,7 @@ not_among s ds (x ∷ before) behind e f n = not_among s ds before behind e f n.
 decides : (s : Selector) (ds : List ℕ) (es : List PrefixEntry) (best : Option PrefixEntry) → Chosen s ds es best → LongestDecides s ds es (rule_of best)
 decides s ds es None h =
     record {
-      some = λ r e. (let z : ◌≡◌ {A = ℕ} 0 1 = cc in absurd (omega arith));
+      some = λ r e. (cc);
       none = λ _. All-weaker (λ x. entry_fits s ds x ≡ false) (λ x. Fits s ds x → ⊥) (λ x n f. false≢true (sym n ∙ fits_in s ds x f)) es h;
       only = λ _. refl;
     }
@@ -97,7 +98,7 @@ decides s ds es (Some b) h =
     let is = rule_in b f.ranged in
     record {
       some = λ r e. (let k : rule_given_by b ≡ r = cc in subst (Decided s ds es) k (decided_by s ds es b h));
-      none = λ e. (let z : ◌≡◌ {A = ℕ} 0 1 = cc in absurd (omega arith));
+      none = λ e. (cc);
       only = λ n. absurd (not_among s ds h.before h.behind b f (subst (NoneFits s ds) h.whole n));
     }
 
