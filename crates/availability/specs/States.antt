@@ -1,5 +1,6 @@
 -- What lists of exceptions and maps say of codes and subsystems.
 use Rattle.std.specs.Prelude.{ℕ, ◌/◌, ◌%◌, ◌^◌, cond, ◌&&◌, List, [], ◌∷◌, length, Some, None, Option, ◌==◌, nat_lt, slice_index}
+use Rattle.std.specs.Option.{option_or, unwrap_or}
 use Rattle.translation.specs.declared.states.CodeState.{CodeState}
 use Rattle.translation.specs.declared.states.CodeState.TheVariants.{Up, TransferDown, SccpDown}
 use Rattle.translation.specs.declared.states.SubsystemState.{SubsystemState}
@@ -17,25 +18,17 @@ abbrev pub subsystem_answer : ℕ → ℕ → Exception → Option SubsystemStat
 subsystem_answer c s (Code code state) = None
 subsystem_answer c s (Subsystem code subsystem state) = cond (code == c && subsystem == s) (Some state) None
 
-abbrev pub or_next : {S : Type 0} → Option S → Option S → Option S
-or_next None next = next
-or_next (Some x) next = Some x
-
 -- what the first entry that answers says
 abbrev pub first_told : {E S : Type 0} → (E → Option S) → List E → Option S
 first_told answer [] = None
-first_told answer (e ∷ es) = or_next (answer e) (first_told answer es)
-
-abbrev pub or_else : {S : Type 0} → Option S → S → S
-or_else None usual = usual
-or_else (Some x) usual = x
+first_told answer (e ∷ es) = option_or (answer e) (first_told answer es)
 
 -- where no entry answers, all is up
 abbrev pub code_told : ℕ → List Exception → CodeState
-code_told c es = or_else (first_told (code_answer c) es) Up
+code_told c es = unwrap_or (first_told (code_answer c) es) Up
 
 abbrev pub subsystem_told : ℕ → ℕ → List Exception → SubsystemState
-subsystem_told c s es = or_else (first_told (subsystem_answer c s) es) Working
+subsystem_told c s es = unwrap_or (first_told (subsystem_answer c s) es) Working
 
 abbrev pub state_numbered : ℕ → CodeState
 state_numbered n = cond (n == 0) Up (cond (n == 1) TransferDown SccpDown)

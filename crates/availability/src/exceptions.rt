@@ -59,30 +59,6 @@ impl<'a> ExceptionList<'a> {
     {
         ExceptionList { entries }
     }
-
-    // What the first entry that speaks of a code says.
-    fn first_of_code(&self, asked: u16) -> Option<CodeState>
-        ensures { result ≡ first_told (code_answer asked) self.now.entries.now }
-    {
-        for e in self.entries {
-            if let Some(state) = e.of_code(asked) {
-                return Some(state);
-            }
-        }
-        None
-    }
-
-    // What the first entry that speaks of a subsystem at a code says.
-    fn first_of_subsystem(&self, asked: u16, number: u8) -> Option<SubsystemState>
-        ensures { result ≡ first_told (subsystem_answer asked number) self.now.entries.now }
-    {
-        for e in self.entries {
-            if let Some(state) = e.of_subsystem(asked, number) {
-                return Some(state);
-            }
-        }
-        None
-    }
 }
 
 impl Availability for ExceptionList<'_> {
@@ -91,16 +67,16 @@ impl Availability for ExceptionList<'_> {
     ghost subsystems = { λ x c s. subsystem_told c s x.entries.now };
 
     fn code_state(&self, code: PointCode) -> CodeState {
-        match self.first_of_code(code.number()) {
-            Some(state) => state,
-            None => CodeState::Up,
-        }
+        self.entries
+            .iter()
+            .find_map(|entry| entry.of_code(code.number()))
+            .unwrap_or(CodeState::Up)
     }
 
     fn subsystem_state(&self, code: PointCode, subsystem: u8) -> SubsystemState {
-        match self.first_of_subsystem(code.number(), subsystem) {
-            Some(state) => state,
-            None => SubsystemState::Working,
-        }
+        self.entries
+            .iter()
+            .find_map(|entry| entry.of_subsystem(code.number(), subsystem))
+            .unwrap_or(SubsystemState::Working)
     }
 }

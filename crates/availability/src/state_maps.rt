@@ -37,19 +37,13 @@ impl Availability for StateMap<'_> {
 
     ghost subsystems = { λ _ _ _. AlwaysWorking };
 
+    #[tactic(auto, using(crate::proofs::Powers::two_bits))]
     fn code_state(&self, code: PointCode) -> CodeState {
         let number = code.number();
-        let place = (number / 4) as usize;
-        if place >= self.octets.len() {
+        let Some(&octet) = self.octets.get(usize::from(number / 4)) else {
             return CodeState::TransferDown;
-        }
-        let octet = self.octets[place];
-        match number % 4 {
-            0 => state_of(octet % 4),
-            1 => state_of(octet / 4 % 4),
-            2 => state_of(octet / 16 % 4),
-            _ => state_of(octet / 64),
-        }
+        };
+        state_of((octet >> (2 * (number % 4))) % 4)
     }
 
     fn subsystem_state(&self, _code: PointCode, _subsystem: u8) -> SubsystemState {
