@@ -8,15 +8,17 @@ mod tests {
     use availability::{Exception, ExceptionList, StateMap};
     use prefix_list::{BenchPlan, EntryDestination, PrefixEntry, PrefixList};
     use std::test::Fail;
+    use translation::Cause::{
+        HopCounterViolation, NetworkCongestion, NoReassembly, NoTranslation, NoTranslationOfNature,
+        SccpFailure, SubsystemFailure, TransferFailure, UnequippedUser, Unqualified,
+    };
+    use translation::Routing::{OnSubsystem, OnTitle};
     use translation::{
         Availability, Cause, CodeState, Routing, Selector, SubsystemState, Translation, Translator,
     };
 
-    // In the place of a cause: the message can go.
-    const GOES: u8 = 255;
-
-    // In the place of a subsystem: there is none.
-    const NO_SUBSYSTEM: u16 = 256;
+    // Where a message goes: the code, how it is routed there, and the subsystem.
+    type Way = (u16, Routing, Option<u8>);
 
     const NATIONAL: Selector = Selector {
         kind: 4,
@@ -52,16 +54,9 @@ mod tests {
         backup: Option<EntryDestination>,
     ) -> PrefixEntry {
         let mut digits = [0u8; 16];
-        for (i, d) in digits.iter_mut().enumerate() {
-            if i < prefix.len() {
-                *d = prefix[i];
-            }
-        }
-        let count = if prefix.len() < 256 {
-            prefix.len() as u8
-        } else {
-            255
-        };
+        let kept = prefix.len().min(digits.len());
+        digits[..kept].copy_from_slice(&prefix[..kept]);
+        let count = u8::try_from(prefix.len()).unwrap_or(u8::MAX);
         PrefixEntry {
             selector,
             count,
@@ -75,44 +70,55 @@ mod tests {
     // Overlapping prefixes, an empty one, two of equal length, both kinds of title, and one
     // entry for each way to be out of range.
     fn table() -> [PrefixEntry; 15] {
-        let on = Routing::OnSubsystem;
         [
-            entry(NATIONAL, &[4, 9], Routing::OnTitle, to(7, None), None),
+            entry(NATIONAL, &[4, 9], OnTitle, to(7, None), None),
             entry(
                 NATIONAL,
                 &[4, 9, 8, 9],
-                on,
+                OnSubsystem,
                 to(5, Some(8)),
                 Some(to(6, None)),
             ),
-            entry(NATIONAL, &[4, 9, 8, 9], on, to(3, Some(3)), None),
+            entry(NATIONAL, &[4, 9, 8, 9], OnSubsystem, to(3, Some(3)), None),
             entry(
                 NATIONAL,
                 &[4, 9, 8, 9, 1, 2],
-                on,
+                OnSubsystem,
                 to(16_383, Some(20)),
                 None,
             ),
-            entry(NATIONAL, &[4, 9, 8], Routing::OnTitle, to(2, Some(0)), None),
-            entry(NATIONAL, &[], Routing::OnTitle, to(11, Some(4)), None),
-            entry(SHORT, &[1, 2], on, to(4, None), Some(to(9, Some(30)))),
+            entry(NATIONAL, &[4, 9, 8], OnTitle, to(2, Some(0)), None),
+            entry(NATIONAL, &[], OnTitle, to(11, Some(4)), None),
+            entry(
+                SHORT,
+                &[1, 2],
+                OnSubsystem,
+                to(4, None),
+                Some(to(9, Some(30))),
+            ),
             entry(
                 SPOILT,
                 &[4, 9, 8, 9, 0, 0, 0, 0, 0, 0, 0, 0, 0, 0, 0, 0, 0],
-                on,
+                OnSubsystem,
                 to(5, Some(8)),
                 None,
             ),
-            entry(SPOILT, &[4, 16], on, to(5, Some(8)), None),
-            entry(SPOILT, &[4], on, to(16_384, Some(8)), None),
-            entry(SPOILT, &[4], on, to(5, Some(8)), Some(to(16_384, None))),
+            entry(SPOILT, &[4, 16], OnSubsystem, to(5, Some(8)), None),
+            entry(SPOILT, &[4], OnSubsystem, to(16_384, Some(8)), None),
+            entry(
+                SPOILT,
+                &[4],
+                OnSubsystem,
+                to(5, Some(8)),
+                Some(to(16_384, None)),
+            ),
             entry(
                 Selector {
                     kind: 3,
                     ..NATIONAL
                 },
                 &[],
-                on,
+                OnSubsystem,
                 to(5, Some(8)),
                 None,
             ),
@@ -122,7 +128,7 @@ mod tests {
                     ..NATIONAL
                 },
                 &[],
-                on,
+                OnSubsystem,
                 to(5, Some(8)),
                 None,
             ),
@@ -132,92 +138,112 @@ mod tests {
                     ..NATIONAL
                 },
                 &[],
-                on,
+                OnSubsystem,
                 to(5, Some(8)),
                 None,
             ),
-            entry(NATIONAL, &[4, 9, 8, 9, 1, 2, 255], on, to(5, Some(8)), None),
+            entry(
+                NATIONAL,
+                &[4, 9, 8, 9, 1, 2, 255],
+                OnSubsystem,
+                to(5, Some(8)),
+                None,
+            ),
         ]
     }
 
-    // A translation or a cause as one row: cause, code, on subsystem, subsystem.
-    fn row(answer: &Result<Translation, Cause>) -> (u8, u16, bool, u16) {
-        match answer {
-            Err(cause) => (cause.number(), 0, false, NO_SUBSYSTEM),
-            Ok(t) => {
-                let on = match t.route.routing {
-                    Routing::OnSubsystem => true,
-                    Routing::OnTitle => false,
-                };
-                let subsystem = match t.route.subsystem {
-                    Some(s) => u16::from(s),
-                    None => NO_SUBSYSTEM,
-                };
-                (GOES, t.route.code.number(), on, subsystem)
-            }
-        }
+    fn point_code(number: u16) -> Result<PointCode, Fail> {
+        PointCode::new(number).ok_or_else(|| Fail::new("the number is a point code"))
     }
 
-    // The called address, cause, code, whether on subsystem, the subsystem, and the new called
-    // address, at the own code 9 where all is up.
-    static TITLES: [(&str, u8, u16, bool, u16, &str); 26] = [
+    fn way(translation: Translation) -> Way {
+        let route = translation.route;
+        (route.code.number(), route.routing, route.subsystem)
+    }
+
+    // The called address, and where a message with it goes with its new called address, or the
+    // cause why it can not, at the own code 9 where all is up.
+    static TITLES: [(&str, Result<(u16, Routing, Option<u8>, &str), Cause>); 26] = [
         // 4989: the earlier of two equally long
-        ("12080012049498", GOES, 5, true, 8, "52080012049498"),
+        (
+            "12080012049498",
+            Ok((5, OnSubsystem, Some(8), "52080012049498")),
+        ),
         // 498912: the longest
         (
             "1208001204949821",
-            GOES,
-            16_383,
-            true,
-            20,
-            "5214001204949821",
+            Ok((16_383, OnSubsystem, Some(20), "5214001204949821")),
         ),
         // 49891, odd: the last half is no digit
-        ("1208001104949821", GOES, 5, true, 8, "5208001104949821"),
+        (
+            "1208001104949821",
+            Ok((5, OnSubsystem, Some(8), "5208001104949821")),
+        ),
         // 498
-        ("120800110494f8", GOES, 2, false, 0, "120000110494f8"),
+        (
+            "120800110494f8",
+            Ok((2, OnTitle, Some(0), "120000110494f8")),
+        ),
         // 4950: on title, with the address's subsystem
-        ("12080012049405", GOES, 7, false, 8, "12080012049405"),
+        (
+            "12080012049405",
+            Ok((7, OnTitle, Some(8), "12080012049405")),
+        ),
         // 49 without a subsystem
-        ("100012049400", GOES, 7, false, NO_SUBSYSTEM, "100012049400"),
+        ("100012049400", Ok((7, OnTitle, None, "100012049400"))),
         // 5: the empty prefix
-        ("12080011040f05", GOES, 11, false, 4, "12040011040f05"),
+        (
+            "12080011040f05",
+            Ok((11, OnTitle, Some(4), "12040011040f05")),
+        ),
         // 4989 without a subsystem: the rule's
-        ("100012049498", GOES, 5, true, 8, "52080012049498"),
+        (
+            "100012049498",
+            Ok((5, OnSubsystem, Some(8), "52080012049498")),
+        ),
         // with a code, which goes away
-        ("133412080012049498", GOES, 5, true, 8, "52080012049498"),
+        (
+            "133412080012049498",
+            Ok((5, OnSubsystem, Some(8), "52080012049498")),
+        ),
         // bits without a use stay
-        ("92080012849498", GOES, 5, true, 8, "d2080012849498"),
+        (
+            "92080012849498",
+            Ok((5, OnSubsystem, Some(8), "d2080012849498")),
+        ),
         // bit 7 as received is of no use
-        ("52080012049405", GOES, 7, false, 8, "12080012049405"),
+        (
+            "52080012049405",
+            Ok((7, OnTitle, Some(8), "12080012049405")),
+        ),
         // kind 2: 1234
-        ("0a0c092143", GOES, 4, true, 12, "4a0c092143"),
+        ("0a0c092143", Ok((4, OnSubsystem, Some(12), "4a0c092143"))),
         // kind 2 without a subsystem: the primary fails, the backup is here
-        ("08092143", GOES, 9, true, 30, "4a1e092143"),
+        ("08092143", Ok((9, OnSubsystem, Some(30), "4a1e092143"))),
         // kind 2 with subsystem 0
-        ("0a00092143", GOES, 9, true, 30, "4a1e092143"),
+        ("0a00092143", Ok((9, OnSubsystem, Some(30), "4a1e092143"))),
         // kind 2: 3412 fits none
-        ("0a0c094321", 1, 0, false, NO_SUBSYSTEM, "-"),
+        ("0a0c094321", Err(NoTranslation)),
         // another translation type
-        ("0a0c082143", 0, 0, false, NO_SUBSYSTEM, "-"),
+        ("0a0c082143", Err(NoTranslationOfNature)),
         // another numbering plan
-        ("12080022049498", 0, 0, false, NO_SUBSYSTEM, "-"),
+        ("12080022049498", Err(NoTranslationOfNature)),
         // another nature
-        ("12080012039498", 0, 0, false, NO_SUBSYSTEM, "-"),
+        ("12080012039498", Err(NoTranslationOfNature)),
         // an encoding that is none
-        ("12080013049498", 1, 0, false, NO_SUBSYSTEM, "-"),
-        ("12080010049498", 1, 0, false, NO_SUBSYSTEM, "-"),
+        ("12080013049498", Err(NoTranslation)),
+        ("12080010049498", Err(NoTranslation)),
         // and an unknown selector before it
-        ("12080023049498", 0, 0, false, NO_SUBSYSTEM, "-"),
+        ("12080023049498", Err(NoTranslationOfNature)),
         // known by entries out of range alone
-        ("12080112049498", 1, 0, false, NO_SUBSYSTEM, "-"),
+        ("12080112049498", Err(NoTranslation)),
         // kinds 1 and 3 are only carried
-        ("06082143", 0, 0, false, NO_SUBSYSTEM, "-"),
-        ("0e0800122143", 0, 0, false, NO_SUBSYSTEM, "-"),
+        ("06082143", Err(NoTranslationOfNature)),
+        ("0e0800122143", Err(NoTranslationOfNature)),
         // no title
-        ("0208", 0, 0, false, NO_SUBSYSTEM, "-"),
+        ("0208", Err(NoTranslationOfNature)),
         // no address: kind 4 without digits
-        ("1208001204", 0, 0, false, NO_SUBSYSTEM, "-"),
+        ("1208001204", Err(NoTranslationOfNature)),
     ];
 
     #[test]
@@ -225,26 +251,26 @@ mod tests {
         let entries = table();
         let list = PrefixList::new(&entries);
         let network = ExceptionList::new(&[]);
-        let Some(own) = PointCode::new(9) else {
-            return Err(Fail::new("9 is a point code"));
-        };
-        for case in TITLES.iter() {
-            let (text, cause, code, on, subsystem, called) = *case;
+        let own = point_code(9)?;
+        for &(text, expected) in TITLES.iter() {
             let octets = hexadecimal::octets_of(rt.alloc(), text)?;
-            let expected = hexadecimal::octets_of(rt.alloc(), called)?;
-            let answer = translation::translate(
-                &list,
-                &network,
-                own,
-                Address::new(octets.as_slice()),
-            );
-            assert_eq!(rt; row(&answer), (cause, code, on, subsystem), "{}", text);
-            if let Ok(t) = answer {
-                assert!(rt; t.called.octets() == expected.as_slice(), "{}", text);
+            let address = Address::new(octets.as_slice());
+            let answer = translation::translate(&list, &network, own, address);
+            match (answer, expected) {
+                (Ok(translation), Ok((code, routing, subsystem, called))) => {
+                    let called = hexadecimal::octets_of(rt.alloc(), called)?;
+                    assert_eq!(rt; way(translation), (code, routing, subsystem), "{}", text);
+                    assert_eq!(rt; translation.called.octets(), called.as_slice(), "{}", text);
+                }
+                (Err(cause), Err(expected)) => {
+                    assert_eq!(rt; cause, expected, "{}", text);
+                }
+                _ => return Err(Fail::new(text)),
             }
         }
         Ok(())
     }
+
     // An entry whose number is no point code answers nothing.
     const IDLE: Exception = Exception::Code {
         code: 16_389,
@@ -348,260 +374,246 @@ mod tests {
 
     const TO_FOUR_BARE: &str = "08092143";
 
-    // Exceptions, the own code, the called address; and the cause, code, whether on subsystem,
-    // and subsystem.
-    static NETWORKS: [([Exception; 3], u16, &str, u8, u16, bool, u16); 32] = [
-        ([IDLE, IDLE, IDLE], 9, TO_FIVE, GOES, 5, true, 8),
+    // Exceptions, the own code, the called address; and where a message goes, or the cause why
+    // it can not.
+    static NETWORKS: [([Exception; 3], u16, &str, Result<Way, Cause>); 32] = [
+        (
+            [IDLE, IDLE, IDLE],
+            9,
+            TO_FIVE,
+            Ok((5, OnSubsystem, Some(8))),
+        ),
         // the primary fails in each way
-        ([FIVE_DOWN, IDLE, IDLE], 9, TO_FIVE, GOES, 6, true, 8),
-        ([IDLE, FIVE_SCCP, IDLE], 9, TO_FIVE, GOES, 6, true, 8),
-        ([IDLE, IDLE, EIGHT_FAILED], 9, TO_FIVE, GOES, 6, true, 8),
-        ([EIGHT_LACKS, IDLE, IDLE], 9, TO_FIVE, GOES, 6, true, 8),
+        (
+            [FIVE_DOWN, IDLE, IDLE],
+            9,
+            TO_FIVE,
+            Ok((6, OnSubsystem, Some(8))),
+        ),
+        (
+            [IDLE, FIVE_SCCP, IDLE],
+            9,
+            TO_FIVE,
+            Ok((6, OnSubsystem, Some(8))),
+        ),
+        (
+            [IDLE, IDLE, EIGHT_FAILED],
+            9,
+            TO_FIVE,
+            Ok((6, OnSubsystem, Some(8))),
+        ),
+        (
+            [EIGHT_LACKS, IDLE, IDLE],
+            9,
+            TO_FIVE,
+            Ok((6, OnSubsystem, Some(8))),
+        ),
         (
             [FIVE_DOWN, IDLE, IDLE],
             9,
             TO_FIVE_BARE,
-            5,
-            0,
-            false,
-            NO_SUBSYSTEM,
+            Err(TransferFailure),
         ),
         // both fail: the primary's cause
         (
             [FIVE_DOWN, SIX_SCCP, IDLE],
             9,
             TO_FIVE,
-            5,
-            0,
-            false,
-            NO_SUBSYSTEM,
+            Err(TransferFailure),
         ),
-        (
-            [FIVE_SCCP, SIX_DOWN, IDLE],
-            9,
-            TO_FIVE,
-            11,
-            0,
-            false,
-            NO_SUBSYSTEM,
-        ),
+        ([FIVE_SCCP, SIX_DOWN, IDLE], 9, TO_FIVE, Err(SccpFailure)),
         (
             [EIGHT_FAILED, SIX_LACKS, IDLE],
             9,
             TO_FIVE,
-            3,
-            0,
-            false,
-            NO_SUBSYSTEM,
+            Err(SubsystemFailure),
         ),
         (
             [EIGHT_LACKS, SIX_DOWN, IDLE],
             9,
             TO_FIVE,
-            4,
-            0,
-            false,
-            NO_SUBSYSTEM,
+            Err(UnequippedUser),
         ),
         // the code is tried before the subsystem
         (
             [EIGHT_FAILED, FIVE_DOWN, SIX_DOWN],
             9,
             TO_FIVE,
-            5,
-            0,
-            false,
-            NO_SUBSYSTEM,
+            Err(TransferFailure),
         ),
         (
             [EIGHT_LACKS, FIVE_SCCP, SIX_DOWN],
             9,
             TO_FIVE,
-            11,
-            0,
-            false,
-            NO_SUBSYSTEM,
+            Err(SccpFailure),
         ),
         // the backup is of no use while the primary takes the message
-        ([SIX_DOWN, SIX_LACKS, IDLE], 9, TO_FIVE, GOES, 5, true, 8),
+        (
+            [SIX_DOWN, SIX_LACKS, IDLE],
+            9,
+            TO_FIVE,
+            Ok((5, OnSubsystem, Some(8))),
+        ),
         // the first entry that answers holds
-        ([FIVE_UP, FIVE_DOWN, IDLE], 9, TO_FIVE, GOES, 5, true, 8),
+        (
+            [FIVE_UP, FIVE_DOWN, IDLE],
+            9,
+            TO_FIVE,
+            Ok((5, OnSubsystem, Some(8))),
+        ),
         (
             [FIVE_DOWN, FIVE_UP, SIX_DOWN],
             9,
             TO_FIVE,
-            5,
-            0,
-            false,
-            NO_SUBSYSTEM,
+            Err(TransferFailure),
         ),
         (
             [FIVE_SCCP, FIVE_DOWN, SIX_DOWN],
             9,
             TO_FIVE,
-            11,
-            0,
-            false,
-            NO_SUBSYSTEM,
+            Err(SccpFailure),
         ),
         (
             [EIGHT_WORKS, EIGHT_FAILED, IDLE],
             9,
             TO_FIVE,
-            GOES,
-            5,
-            true,
-            8,
+            Ok((5, OnSubsystem, Some(8))),
         ),
         (
             [EIGHT_FAILED, EIGHT_LACKS, SIX_DOWN],
             9,
             TO_FIVE,
-            3,
-            0,
-            false,
-            NO_SUBSYSTEM,
+            Err(SubsystemFailure),
         ),
         // another subsystem
-        ([NINE_FAILED, IDLE, IDLE], 9, TO_FIVE, GOES, 5, true, 8),
+        (
+            [NINE_FAILED, IDLE, IDLE],
+            9,
+            TO_FIVE,
+            Ok((5, OnSubsystem, Some(8))),
+        ),
         // the own code is up, its subsystems are asked
-        ([FIVE_DOWN, SIX_DOWN, IDLE], 5, TO_FIVE, GOES, 5, true, 8),
+        (
+            [FIVE_DOWN, SIX_DOWN, IDLE],
+            5,
+            TO_FIVE,
+            Ok((5, OnSubsystem, Some(8))),
+        ),
         (
             [FIVE_SCCP, EIGHT_FAILED, SIX_DOWN],
             5,
             TO_FIVE,
-            3,
-            0,
-            false,
-            NO_SUBSYSTEM,
+            Err(SubsystemFailure),
         ),
-        ([FIVE_DOWN, SIX_SCCP, IDLE], 6, TO_FIVE, GOES, 6, true, 8),
+        (
+            [FIVE_DOWN, SIX_SCCP, IDLE],
+            6,
+            TO_FIVE,
+            Ok((6, OnSubsystem, Some(8))),
+        ),
         (
             [FIVE_DOWN, SIX_LACKS, IDLE],
             6,
             TO_FIVE,
-            5,
-            0,
-            false,
-            NO_SUBSYSTEM,
+            Err(TransferFailure),
         ),
         // on title
+        ([SEVEN_DOWN, IDLE, IDLE], 9, TO_SEVEN, Err(TransferFailure)),
+        ([SEVEN_SCCP, IDLE, IDLE], 9, TO_SEVEN, Err(SccpFailure)),
         (
-            [SEVEN_DOWN, IDLE, IDLE],
+            [SEVEN_FAILED, IDLE, IDLE],
             9,
             TO_SEVEN,
-            5,
-            0,
-            false,
-            NO_SUBSYSTEM,
+            Ok((7, OnTitle, Some(8))),
         ),
-        (
-            [SEVEN_SCCP, IDLE, IDLE],
-            9,
-            TO_SEVEN,
-            11,
-            0,
-            false,
-            NO_SUBSYSTEM,
-        ),
-        ([SEVEN_FAILED, IDLE, IDLE], 9, TO_SEVEN, GOES, 7, false, 8),
-        ([IDLE, IDLE, IDLE], 7, TO_SEVEN, 1, 0, false, NO_SUBSYSTEM),
-        (
-            [SEVEN_DOWN, IDLE, IDLE],
-            7,
-            TO_SEVEN,
-            1,
-            0,
-            false,
-            NO_SUBSYSTEM,
-        ),
+        ([IDLE, IDLE, IDLE], 7, TO_SEVEN, Err(NoTranslation)),
+        ([SEVEN_DOWN, IDLE, IDLE], 7, TO_SEVEN, Err(NoTranslation)),
         // the backup's own subsystem
-        ([FOUR_FAILED, IDLE, IDLE], 9, TO_FOUR, GOES, 9, true, 30),
+        (
+            [FOUR_FAILED, IDLE, IDLE],
+            9,
+            TO_FOUR,
+            Ok((9, OnSubsystem, Some(30))),
+        ),
         (
             [FOUR_FAILED, HERE_LACKS, IDLE],
             9,
             TO_FOUR,
-            3,
-            0,
-            false,
-            NO_SUBSYSTEM,
+            Err(SubsystemFailure),
         ),
-        ([HERE_LACKS, IDLE, IDLE], 9, TO_FOUR, GOES, 4, true, 12),
+        (
+            [HERE_LACKS, IDLE, IDLE],
+            9,
+            TO_FOUR,
+            Ok((4, OnSubsystem, Some(12))),
+        ),
         (
             [HERE_LACKS, IDLE, IDLE],
             9,
             TO_FOUR_BARE,
-            1,
-            0,
-            false,
-            NO_SUBSYSTEM,
+            Err(NoTranslation),
         ),
     ];
 
-    // What a message with this called address meets, as a row; causes are below 254.
+    // Where a message with this called address goes, or the cause why it can not.
     fn met<X: Translator, V: Availability>(
         translator: &X,
         network: &V,
-        own: u16,
+        own: PointCode,
         octets: &[u8],
-    ) -> (u8, u16, bool, u16) {
-        let Some(own) = PointCode::new(own) else {
-            return (254, 0, false, NO_SUBSYSTEM);
-        };
-        let answer = translation::translate(translator, network, own, Address::new(octets));
-        row(&answer)
+    ) -> Result<Way, Cause> {
+        translation::translate(translator, network, own, Address::new(octets)).map(way)
     }
 
     #[test]
     fn trials_of_primary_and_backup(rt: HostRuntime) -> Result<(), Fail> {
         let entries = table();
         let list = PrefixList::new(&entries);
-        for case in NETWORKS.iter() {
-            let (exceptions, own, text, cause, code, on, subsystem) = *case;
+        for &(exceptions, own, text, expected) in NETWORKS.iter() {
             let octets = hexadecimal::octets_of(rt.alloc(), text)?;
             let network = ExceptionList::new(&exceptions);
-            let answer = met(&list, &network, own, octets.as_slice());
-            assert_eq!(rt; answer, (cause, code, on, subsystem), "{}", text);
+            let answer = met(&list, &network, point_code(own)?, octets.as_slice());
+            assert_eq!(rt; answer, expected, "{}", text);
         }
         Ok(())
     }
 
     // Called addresses, and what the plan of a test bench makes of them.
-    static PLANNED: [(&str, u8, u16, u16); 12] = [
+    static PLANNED: [(&str, Result<(u16, u8), Cause>); 12] = [
         // 00005008
-        ("120800120400000580", GOES, 5, 8),
+        ("120800120400000580", Ok((5, 8))),
         // 16383255
-        ("120800120461832355", GOES, 16_383, 255),
+        ("120800120461832355", Ok((16_383, 255))),
         // 16384000
-        ("120800120461830400", 1, 0, NO_SUBSYSTEM),
+        ("120800120461830400", Err(NoTranslation)),
         // 00005256
-        ("120800120400002565", 1, 0, NO_SUBSYSTEM),
+        ("120800120400002565", Err(NoTranslation)),
         // 00005000: a rule with subsystem 0, which none has
-        ("120800120400000500", 1, 0, NO_SUBSYSTEM),
+        ("120800120400000500", Err(NoTranslation)),
         // 0000500
-        ("120800110400000580", 1, 0, NO_SUBSYSTEM),
+        ("120800110400000580", Err(NoTranslation)),
         // 0000500800
-        ("12080012040000058000", 1, 0, NO_SUBSYSTEM),
+        ("12080012040000058000", Err(NoTranslation)),
         // 000050a8
-        ("12080012040000058a", 1, 0, NO_SUBSYSTEM),
+        ("12080012040000058a", Err(NoTranslation)),
         // 99999999
-        ("120800120499999999", 1, 0, NO_SUBSYSTEM),
+        ("120800120499999999", Err(NoTranslation)),
         // an encoding that is none
-        ("120800140400000580", 1, 0, NO_SUBSYSTEM),
+        ("120800140400000580", Err(NoTranslation)),
         // another nature, and kind 2
-        ("120800120300000580", 0, 0, NO_SUBSYSTEM),
-        ("0a080000000580", 0, 0, NO_SUBSYSTEM),
+        ("120800120300000580", Err(NoTranslationOfNature)),
+        ("0a080000000580", Err(NoTranslationOfNature)),
     ];
 
     #[test]
     fn plan_of_a_test_bench(rt: HostRuntime) -> Result<(), Fail> {
         let plan = BenchPlan { selector: NATIONAL };
         let network = ExceptionList::new(&[]);
-        for case in PLANNED.iter() {
-            let (text, cause, code, subsystem) = *case;
+        for &(text, expected) in PLANNED.iter() {
             let octets = hexadecimal::octets_of(rt.alloc(), text)?;
-            let answer = met(&plan, &network, 9, octets.as_slice());
-            assert_eq!(rt; answer, (cause, code, cause == GOES, subsystem), "{}", text);
+            let answer = met(&plan, &network, point_code(9)?, octets.as_slice());
+            let expected = expected.map(|(code, subsystem)| (code, OnSubsystem, Some(subsystem)));
+            assert_eq!(rt; answer, expected, "{}", text);
         }
         Ok(())
     }
@@ -620,41 +632,36 @@ mod tests {
         Ok(())
     }
 
-    // The state of a code as a number: 0 up, 1 transfer down, 2 SCCP down.
-    fn state<V: Availability>(network: &V, code: u16) -> u8 {
-        let Some(code) = PointCode::new(code) else {
-            return 9;
-        };
-        match network.code_state(code) {
-            CodeState::Up => 0,
-            CodeState::TransferDown => 1,
-            CodeState::SccpDown => 2,
-        }
+    // The state of a code; none where the number is no point code.
+    fn state<V: Availability>(network: &V, code: u16) -> Option<CodeState> {
+        PointCode::new(code).map(|code| network.code_state(code))
     }
 
     // Codes and their states in a map of the octets E4 and 01.
-    static MAPPED: [(u16, u8); 11] = [
-        (0, 0),
-        (1, 1),
-        (2, 2),
-        (3, 2),
-        (4, 1),
-        (5, 0),
-        (6, 0),
-        (7, 0),
-        (8, 1),
-        (9, 1),
-        (16_383, 1),
+    static MAPPED: [(u16, CodeState); 11] = [
+        (0, CodeState::Up),
+        (1, CodeState::TransferDown),
+        (2, CodeState::SccpDown),
+        (3, CodeState::SccpDown),
+        (4, CodeState::TransferDown),
+        (5, CodeState::Up),
+        (6, CodeState::Up),
+        (7, CodeState::Up),
+        (8, CodeState::TransferDown),
+        (9, CodeState::TransferDown),
+        (16_383, CodeState::TransferDown),
     ];
 
     #[test]
     fn states_of_a_map(rt: HostRuntime) {
         let map = StateMap::new(&[0xe4, 0x01]);
-        for case in MAPPED.iter() {
-            let (code, expected) = *case;
-            assert_eq!(rt; state(&map, code), expected);
+        for &(code, expected) in MAPPED.iter() {
+            assert_eq!(rt; state(&map, code), Some(expected));
         }
-        assert_eq!(rt; state(&StateMap::new(&[]), 0), 1);
+        assert_eq!(rt;
+            state(&StateMap::new(&[]), 0),
+            Some(CodeState::TransferDown)
+        );
     }
 
     #[test]
@@ -662,47 +669,44 @@ mod tests {
         let entries = table();
         let list = PrefixList::new(&entries);
         let octets = hexadecimal::octets_of(rt.alloc(), TO_FIVE)?;
+        let own = point_code(9)?;
         // 5 up, 6 transfer down
-        let primary = met(&list, &StateMap::new(&[0, 0x10]), 9, octets.as_slice());
-        assert_eq!(rt; primary, (GOES, 5, true, 8));
+        let primary = met(&list, &StateMap::new(&[0, 0x10]), own, octets.as_slice());
+        assert_eq!(rt; primary, Ok((5, OnSubsystem, Some(8))));
         // 5 SCCP down, 6 up
-        let backup = met(&list, &StateMap::new(&[0, 0x08]), 9, octets.as_slice());
-        assert_eq!(rt; backup, (GOES, 6, true, 8));
+        let backup = met(&list, &StateMap::new(&[0, 0x08]), own, octets.as_slice());
+        assert_eq!(rt; backup, Ok((6, OnSubsystem, Some(8))));
         // codes from 4 on are beyond
-        let beyond = met(&list, &StateMap::new(&[0]), 9, octets.as_slice());
-        assert_eq!(rt; beyond, (5, 0, false, NO_SUBSYSTEM));
+        let beyond = met(&list, &StateMap::new(&[0]), own, octets.as_slice());
+        assert_eq!(rt; beyond, Err(TransferFailure));
         Ok(())
     }
 
-    // How many digits the entry that decides has; 99 where none fits.
-    fn decides(list: &PrefixList, selector: Selector, digits: &[u8]) -> u8 {
-        match list.entry_for(selector, digits) {
-            Some(e) => e.count,
-            None => 99,
-        }
+    // How many digits the entry that decides has, where one fits.
+    fn decides(list: &PrefixList, selector: Selector, digits: &[u8]) -> Option<u8> {
+        list.entry_for(selector, digits).map(|entry| entry.count)
     }
 
     #[test]
     fn sixteen_digits_and_one_less(rt: HostRuntime) {
         let full = [1, 2, 3, 4, 5, 6, 7, 8, 9, 10, 11, 12, 13, 14, 15, 0];
-        let on = Routing::OnTitle;
         let entries = [
-            entry(SHORT, &[1], on, to(1, None), None),
-            entry(SHORT, &full, on, to(2, None), None),
+            entry(SHORT, &[1], OnTitle, to(1, None), None),
+            entry(SHORT, &full, OnTitle, to(2, None), None),
         ];
         let list = PrefixList::new(&entries);
-        assert_eq!(rt; decides(&list, SHORT, &full), 16);
+        assert_eq!(rt; decides(&list, SHORT, &full), Some(16));
         assert_eq!(rt;
             decides(
                 &list,
                 SHORT,
                 &[1, 2, 3, 4, 5, 6, 7, 8, 9, 10, 11, 12, 13, 14, 15, 0, 7],
             ),
-            16
+            Some(16)
         );
-        assert_eq!(rt; decides(&list, SHORT, &full[0..15]), 1);
-        assert_eq!(rt; decides(&list, SHORT, &[]), 99);
-        assert_eq!(rt; decides(&list, NATIONAL, &full), 99);
+        assert_eq!(rt; decides(&list, SHORT, &full[0..15]), Some(1));
+        assert_eq!(rt; decides(&list, SHORT, &[]), None);
+        assert_eq!(rt; decides(&list, NATIONAL, &full), None);
     }
 
     #[test]
@@ -740,23 +744,33 @@ mod tests {
             .is_none()
         );
         assert!(rt; list.rule(SPOILT, &[4, 16]).is_none());
-        assert_eq!(rt; decides(&list, NATIONAL, &[4, 9, 8, 9, 1, 2, 255]), 6);
+        assert_eq!(rt; decides(&list, NATIONAL, &[4, 9, 8, 9, 1, 2, 255]), Some(6));
     }
+
+    // The causes, with their numbers and words.
+    static CAUSES: [(Cause, u8, &str); 10] = [
+        (
+            NoTranslationOfNature,
+            0,
+            "no translation for an address of such nature",
+        ),
+        (NoTranslation, 1, "no translation for this specific address"),
+        (SubsystemFailure, 3, "subsystem failure"),
+        (UnequippedUser, 4, "unequipped user"),
+        (TransferFailure, 5, "message transfer failure"),
+        (NetworkCongestion, 6, "network congestion"),
+        (Unqualified, 7, "unqualified"),
+        (NoReassembly, 10, "destination cannot perform reassembly"),
+        (SccpFailure, 11, "SCCP failure"),
+        (HopCounterViolation, 12, "hop counter violation"),
+    ];
 
     #[test]
     fn numbers_and_words_of_causes(rt: HostRuntime) -> Result<(), Fail> {
-        assert_eq!(rt; Cause::NoTranslationOfNature.number(), 0);
-        assert_eq!(rt; Cause::NoTranslation.number(), 1);
-        assert_eq!(rt; Cause::SubsystemFailure.number(), 3);
-        assert_eq!(rt; Cause::UnequippedUser.number(), 4);
-        assert_eq!(rt; Cause::TransferFailure.number(), 5);
-        assert_eq!(rt; Cause::NetworkCongestion.number(), 6);
-        assert_eq!(rt; Cause::Unqualified.number(), 7);
-        assert_eq!(rt; Cause::NoReassembly.number(), 10);
-        assert_eq!(rt; Cause::SccpFailure.number(), 11);
-        assert_eq!(rt; Cause::HopCounterViolation.number(), 12);
-        let words = Cause::SccpFailure.to_string(rt.alloc())?;
-        assert!(rt; words.as_str() == "SCCP failure");
+        for &(cause, number, words) in CAUSES.iter() {
+            assert_eq!(rt; cause.number(), number);
+            assert_eq!(rt; cause.to_string(rt.alloc())?.as_str(), words);
+        }
         Ok(())
     }
 }
