@@ -1,7 +1,6 @@
 -- Which entry of a prefix list fits the digits of a title, and which of those decides.
-use Rattle.std.specs.Prelude.{◌≡◌, ℕ, ◌<◌, ◌≤◌, Bool, cond, ◌&&◌, ◌||◌, List, take, is_some, Some, None, fold, Option, ◌==◌, nat_le, nat_lt}
+use Rattle.std.specs.Prelude.{ℕ, Bool, cond, ◌&&◌, ◌||◌, List, take, is_some, Some, None, fold, Option, ◌==◌, nat_le, nat_lt}
 use Rattle.std.specs.List.{list_all, list_any, starts_with}
-use denote.Ref.{Bor}
 use Rattle.translation.specs.declared.rules.Selector.{Selector}
 use Rattle.translation.specs.Rules.{DestinationView, RuleView}
 use Rattle.prefix_list.specs.declared.entries.EntryDestination.{EntryDestination}
@@ -20,10 +19,9 @@ same_selector a b = a.kind == b.kind && (a.translation_type == b.translation_typ
 abbrev pub prefix_of : PrefixEntry → List ℕ
 prefix_of e = take e.count e.digits
 
--- the digits as a slice of the entry, none where it cannot have so many
-abbrev pub prefix_found : PrefixEntry → Option (Bor (List ℕ)) → Type 0
-prefix_found e None = 16 < e.count
-prefix_found e (Some p) = (e.count ≤ 16) × (p.now ≡ prefix_of e)
+-- the same, none where the entry cannot have so many
+abbrev pub prefix_in : PrefixEntry → Option (List ℕ)
+prefix_in e = cond (nat_le e.count 16) (Some (prefix_of e)) None
 
 abbrev pub selector_ranged : Selector → Bool
 selector_ranged s = (s.kind == 2 || s.kind == 4) && (nat_lt s.numbering_plan 16 && nat_lt s.nature 128)

@@ -1,6 +1,7 @@
 ghost use Rattle.std.specs.Prelude.{◌≡◌};
+ghost use Rattle.std.specs.Option.{option_copied};
 ghost use Rattle.translation.specs.Rules.{rule_found, backup_seen};
-ghost use Rattle.prefix_list.specs.Prefixes.{destination_in, prefix_found, prefix_ranged, same_selector, selector_ranged, entry_rule, entry_fits};
+ghost use Rattle.prefix_list.specs.Prefixes.{destination_in, prefix_in, prefix_ranged, same_selector, selector_ranged, entry_rule, entry_fits};
 
 use crate::digits;
 use address::PointCode;
@@ -62,7 +63,7 @@ impl PrefixEntry {
 
     // The digits of the entry, where there are at most 16.
     fn prefix(&self) -> Option<&[u8]>
-        ensures { prefix_found self.now result }
+        ensures { option_copied result ≡ prefix_in self.now }
     {
         self.digits.get(..usize::from(self.count))
     }
