@@ -2,7 +2,7 @@
 use Rattle.std.proofs.Common.{◌≡◌, ℕ, ◌+◌, ◌<◌, zero, suc, List, [], ◌∷◌, length, get_or, Some, None, Option, MatchOption, IsTrue, IsSomeAnd, IfSome, Iter, refl, sym, ap, subst, ◌∙◌, arith}
 use Rattle.std.specs.Fn.{Called}
 use Rattle.std.specs.Option.{option_map, option_or}
-use Rattle.std.specs.Iterator.Runs.{Run, SomeRun, YieldsRefsInOrder, ItemsMapTo, AllItemsGive, IsFirstToGive}
+use Rattle.std.specs.Iterator.Runs.{Run, SomeRun, YieldsRefsInOrder, ItemsMapTo, CallKeepsClosure, AllItemsGive, IsFirstToGive}
 use Rattle.std.specs.Slice.Iter.{iter_rest, iter_steps}
 use Rattle.availability.specs.States.{first_told}
 use denote.Param.Members.{Mut}
@@ -30,15 +30,16 @@ module _ {E R F : Type 0} {g : Mut F (Bor E × Unit {0}) (Option R)} {f : F} (an
   at_item None e m h a = (let z : ◌≡◌ {A = ℕ} 0 1 = cc in absurd (omega arith))
   at_item (Some x) e m h a = at_place (Some x) e m h a
 
+  keeps : CallKeepsClosure g f
+  keeps a r q c = (tells a.0 r q c).0
+
   -- a run that stopped at the first answer, or went on to the end
   told : {S : Type 0} {steps : S → Option (Bor E) → S → Type 0} (p : Run steps) (es : List E) (r : Option R) → ItemsMapTo p (λ y. y.now) es
       → MatchOption r (IsTrue p.whole × AllItemsGive p g f None) (λ y. (i : ℕ) × (i < p.len) × (p.len ≡ i + 1) × IsFirstToGive p g f (Some y) None i)
       → r ≡ first_told answer es
   told p es None items h =
-      let keeps = λ (a : Bor E × Unit {0}) (r : Option R) (q : F) (c : Called g f a r q). (tells a.0 r q c).0 in
       sym (none_told answer es (λ k d l. at_item (p.at k) _ None (items.2 k d (omega arith)) (h.1 keeps k)))
   told p es (Some y) items h =
-      let keeps = λ (a : Bor E × Unit {0}) (r : Option R) (q : F) (c : Called g f a r q). (tells a.0 r q c).0 in
       sym (told_at answer es h.0 y (omega arith) (λ k d l. at_place (p.at k) _ None (items.2 k d (omega arith)) ((h.3 keeps).1 k l))
       (λ d. at_place (p.at h.0) _ (Some y) (items.2 h.0 d (omega arith)) (h.3 keeps).0))
 
