@@ -14,7 +14,7 @@ use Rattle.translation.specs.Translating.{TranslationView}
 use Rattle.translation.specs.Trials.{code_trial, trial_of}
 use Rattle.routing.specs.declared.targets.Target.{Target}
 use Rattle.routing.specs.declared.targets.Target.TheVariants as target
-use Rattle.routing.specs.Meanings.{Tables, translated_by}
+use Rattle.routing.specs.Meanings.{TablesView, translated_by}
 
 -- a subsystem at the own code; another code, with the called address that is written; or none, with the cause
 pub data TargetView : Type 0 where
@@ -22,10 +22,10 @@ pub data TargetView : Type 0 where
   away : ℕ → List ℕ → TargetView
   no_target : Cause → TargetView
 
-abbrev pub target_of : Target → TargetView
-target_of (target.Here s) = at_home s
-target_of (target.Away c a) = away (code_number c) (buffer_octets a)
-target_of (target.Nowhere c) = no_target c
+abbrev pub target_of : Result Target Cause → TargetView
+target_of (Ok (target.Here s)) = at_home s
+target_of (Ok (target.Away c a)) = away (code_number c) (buffer_octets a)
+target_of (Err c) = no_target c
 
 abbrev pub code_given : Option PointCode → Option ℕ
 code_given None = None
@@ -64,7 +64,7 @@ translated_target own (Ok t) = cond (t.route.code == own) (home t.route.subsyste
 translated_target own (Err c) = no_target c
 
 -- on title: translated at the own code, else on to the code if that is up
-abbrev pub at_title : Tables → ℕ → ℕ → List ℕ → TargetView
+abbrev pub at_title : TablesView → ℕ → ℕ → List ℕ → TargetView
 at_title t own c a = cond (c == own) (translated_target own (translated_by t own a)) (goes_to (code_trial t.codes own c) false c a)
 
 -- without a title: code and nonzero subsystem are needed
@@ -73,10 +73,10 @@ untitled_target codes subsystems own None a = no_target NoTranslation
 untitled_target codes subsystems own (Some c) a = cond (nonzero (subsystem_of a)) (at_subsystem codes subsystems own c a) (no_target NoTranslation)
 
 -- with a title: without a code it is translated; with one, bit 7 decides if the subsystem is nonzero, else the title does
-abbrev pub titled_target : Tables → ℕ → Option ℕ → List ℕ → TargetView
+abbrev pub titled_target : TablesView → ℕ → Option ℕ → List ℕ → TargetView
 titled_target t own None a = translated_target own (translated_by t own a)
 titled_target t own (Some c) a = cond (on_subsystem_of a && nonzero (subsystem_of a)) (at_subsystem t.codes t.subsystems own c a) (at_title t own c a)
 
 -- where an address leads, at the station of the code own; code is the address's own one, or what stands for it
-unfoldable pub target_for : Tables → ℕ → Option ℕ → List ℕ → TargetView
+unfoldable pub target_for : TablesView → ℕ → Option ℕ → List ℕ → TargetView
 target_for t own code a = cond (has_title a) (titled_target t own code a) (untitled_target t.codes t.subsystems own code a)

@@ -16,12 +16,10 @@ pub fn delivery_of(form: Form, options: Options<'_>) -> Delivery
     ensures { delivery_seen result ≡ delivery_of form options.entry.octets.now }
 {
     match form {
-        Form::Udt { class: _ } => Delivery::Unit,
-        Form::Udts { cause: _ } => Delivery::Notice,
-        Form::Xudt { class: _, hop: _ } => match options.segmentation() {
-            Some(segmentation) => Delivery::Piece(segmentation),
-            None => Delivery::Unit,
-        },
-        Form::Xudts { cause: _, hop: _ } => Delivery::Notice,
+        Form::Udt { .. } => Delivery::Unit,
+        Form::Xudt { .. } => options
+            .segmentation()
+            .map_or(Delivery::Unit, Delivery::Piece),
+        Form::Udts { .. } | Form::Xudts { .. } => Delivery::Notice,
     }
 }

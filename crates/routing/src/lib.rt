@@ -2,9 +2,13 @@
 #![tactic(auto)]
 
 pub mod deliveries;
+pub mod networks;
+pub mod nodes;
 pub mod targets;
 pub mod ways;
 
 pub use deliveries::{Delivery, delivery_of};
-pub use targets::{Target, code_of, target_for};
-pub use ways::{Way, way_for};
+pub use networks::{Network, Tables};
+pub use nodes::Node;
+pub use targets::{Target, code_of};
+pub use ways::Way;

@@ -1,14 +1,14 @@
 ghost use Rattle.std.specs.Prelude.{◌≡◌};
 ghost use Rattle.address.specs.Code.{code_number};
-ghost use Rattle.routing.specs.Meanings.{tables};
-ghost use Rattle.routing.specs.Ways.{way_of, here_if, less_hop, on_title_way, way_for};
+ghost use Rattle.routing.specs.Ways.{way_of, less_hop, on_title_way, way_for};
 
+use crate::networks::Network;
+use crate::nodes::Node;
 use address::{Address, AddressBuffer, PointCode};
 use message::Form;
-use translation::{Availability, Cause, Translator, subsystem_trial, translate};
+use translation::Cause;
 
-// Where a message that was received goes: to a subsystem here; on to another code, with its form and called address there;
-// or nowhere, and why.
+// Where a message that was received goes: to a subsystem here, or on to another code, with its form and called address there.
 #[derive(Clone, Copy)]
 pub enum Way {
     Here {
@@ -19,22 +19,6 @@ pub enum Way {
         form: Form,
         called: AddressBuffer,
     },
-    Nowhere {
-        cause: Cause,
-    },
-}
-
-// To a subsystem, unless there is a cause against it.
-fn here_if(cause: Option<Cause>, subsystem: Option<u8>) -> Way
-    ensures { way_of result ≡ here_if cause subsystem }
-{
-    match (cause, subsystem) {
-        (Some(cause), _) => Way::Nowhere { cause },
-        (None, Some(subsystem)) => Way::Here { subsystem },
-        (None, None) => Way::Nowhere {
-            cause: Cause::NoTranslation,
-        },
-    }
 }
 
 // The form after a translation, which takes one hop; none where no hop would be left.
@@ -42,76 +26,48 @@ fn less_hop(form: Form) -> Option<Form>
     ensures { result ≡ less_hop form }
 {
     match form {
-        Form::Udt { class } => Some(Form::Udt { class }),
-        Form::Udts { cause } => Some(Form::Udts { cause }),
-        Form::Xudt { class, hop } => {
-            if hop > 1 {
-                Some(Form::Xudt {
-                    class,
-                    hop: hop - 1,
-                })
-            } else {
-                None
-            }
-        }
-        Form::Xudts { cause, hop } => {
-            if hop > 1 {
-                Some(Form::Xudts {
-                    cause,
-                    hop: hop - 1,
-                })
-            } else {
-                None
-            }
-        }
+        Form::Udt { .. } | Form::Udts { .. } => Some(form),
+        Form::Xudt { class, hop } if hop > 1 => Some(Form::Xudt {
+            class,
+            hop: hop - 1,
+        }),
+        Form::Xudts { cause, hop } if hop > 1 => Some(Form::Xudts {
+            cause,
+            hop: hop - 1,
+        }),
+        Form::Xudt { .. } | Form::Xudts { .. } => None,
     }
 }
 
-// The way of a message that is routed on its title.
-fn title_way<X: Translator, V: Availability>(
-    translator: &X,
-    availability: &V,
-    own: PointCode,
-    form: Form,
-    called: Address<'_>,
-) -> Way
-    ensures { way_of result ≡ on_title_way (tables (X.known translator.now) (X.fit translator.now) (V.codes availability.now) (V.subsystems availability.now)) (code_number own) called.entry.octets.now (less_hop form) }
-{
-    let Some(form) = less_hop(form) else {
-        return Way::Nowhere {
-            cause: Cause::HopCounterViolation,
-        };
-    };
-    match translate(translator, availability, own, called) {
-        Ok(found) => {
-            if found.route.code.number() == own.number() {
-                here_if(None, found.route.subsystem)
-            } else {
-                Way::Onward {
-                    code: found.route.code,
-                    form,
-                    called: found.called,
-                }
-            }
+impl<'n, N: Network> Node<'n, N> {
+    // The way of a message that is routed on its title.
+    fn title_way(&self, form: Form, called: Address<'_>) -> Result<Way, Cause>
+        ensures { way_of result ≡ on_title_way (N.told self.now.network.now) (code_number self.now.code) called.entry.octets.now (less_hop form) }
+    {
+        let form = less_hop(form).ok_or(Cause::HopCounterViolation)?;
+        let found = self.network.translate(self.code, called)?;
+        if found.route.code != self.code {
+            return Ok(Way::Onward {
+                code: found.route.code,
+                form,
+                called: found.called,
+            });
         }
-        Err(cause) => Way::Nowhere { cause },
+        let subsystem = found.route.subsystem.ok_or(Cause::NoTranslation)?;
+        Ok(Way::Here { subsystem })
     }
-}
 
-// Where a message of this form goes that was received with this called address, at the station of the code `own`.
-pub fn way_for<X: Translator, V: Availability>(
-    translator: &X,
-    availability: &V,
-    own: PointCode,
-    form: Form,
-    called: Address<'_>,
-) -> Way
-    ensures { way_of result ≡ way_for (tables (X.known translator.now) (X.fit translator.now) (V.codes availability.now) (V.subsystems availability.now)) (code_number own) form called.entry.octets.now }
-{
-    if called.on_subsystem() {
+    // Where a message of this form goes that was received here with this called address, or the cause why nowhere.
+    #[tactic(auto, unfolding(crate::specs::Ways::way_for))]
+    pub fn way_for(&self, form: Form, called: Address<'_>) -> Result<Way, Cause>
+        ensures { way_of result ≡ way_for (N.told self.now.network.now) (code_number self.now.code) form called.entry.octets.now }
+    {
+        if !called.on_subsystem() {
+            return self.title_way(form, called);
+        }
         let subsystem = called.subsystem();
-        here_if(subsystem_trial(availability, own, subsystem), subsystem)
-    } else {
-        title_way(translator, availability, own, form, called)
+        self.network.subsystem_trial(self.code, subsystem)?;
+        let subsystem = subsystem.ok_or(Cause::NoTranslation)?;
+        Ok(Way::Here { subsystem })
     }
 }
