@@ -1,5 +1,6 @@
 -- What writing into a buffer of 272 octets gives.
-use Rattle.std.proofs.Common.{◌≡◌, ℕ, ◌≤◌, Bool, true, false, ◌&&◌, leb, List, length, take, drop, Ok, Err, sym, refl, ap, ◌∙◌, arith}
+use Rattle.std.proofs.Common.{◌≡◌, ℕ, ◌≤◌, Bool, true, false, ◌&&◌, leb, List, length, take, drop, is_some, IfSome, Ok, Err, Option, Result, sym, refl, ap, ◌∙◌, subst, arith}
+use Rattle.std.specs.Result.{result_ok}
 use Rattle.std.proofs.lemmas.List.{take_at}
 use Rattle.std.proofs.lemmas.Bool.{and_from, and_parts, le-leb, leb-true}
 use Rattle.message.specs.declared.messages.Form.{Form}
@@ -18,7 +19,7 @@ short (Udts c) = omega arith
 short (Xudt c h) = omega arith
 short (Xudts c h) = omega arith
 
-pub composed : (p : Parsed) (before after : List ℕ) (n : ℕ) → Ok n ≡ write_answer p (length before) → after ≡ buffer_after p before (Ok n)
+composed : (p : Parsed) (before after : List ℕ) (n : ℕ) → Ok n ≡ write_answer p (length before) → after ≡ buffer_after p before (Ok n)
     → (12 ≤ n) × (n ≤ 272) × (take n after ≡ encode p)
 composed p before after n ea eb =
     let a = answered p (length before) n ea in
@@ -27,7 +28,7 @@ composed p before after n ea eb =
     let m : size p ≤ 272 = a.1 in
     (omega arith, omega arith, ap (take n) eb ∙ take_at (encode p) (drop n before) n (encode_length p ∙ sym a.0))
 
-pub composed_fits : (p : Parsed) (room n : ℕ) → Ok n ≡ write_answer p room → fits_line p ≡ true
+composed_fits : (p : Parsed) (room n : ℕ) → Ok n ≡ write_answer p room → fits_line p ≡ true
 composed_fits p room n h =
     let f : Form = p.form in
     let k : Lengths = lengths_of (kept p) in
@@ -53,8 +54,21 @@ refused false n b e k f h = refl
 refused true false b e k f h = refl
 refused true true b e k f h = absurd (third b e k h (f refl))
 
-pub composed_not : (p : Parsed) (room : ℕ) (e : WriteRefusal) → room ≡ 272 → Err e ≡ write_answer p room → fits_line p ≡ false
+composed_not : (p : Parsed) (room : ℕ) (e : WriteRefusal) → room ≡ 272 → Err e ≡ write_answer p room → fits_line p ≡ false
 composed_not p room e r h =
     let f : Form = p.form in
     let k : Lengths = lengths_of (kept p) in
     refused (short_enough f k) (near_enough f k) (leb (size p) room) e (size p) (λ s. le-leb (size p) room (let m = no_more p s in omega arith)) h
+
+-- the length that was written, if any was
+abbrev pub Composed : Parsed → List ℕ → Option ℕ → Type 0
+Composed p after o = (is_some o ≡ fits_line p) × IfSome o (λ n. (12 ≤ n) × (n ≤ 272) × (take n after ≡ encode p))
+
+by_answer : (p : Parsed) (before after : List ℕ) (r : Result ℕ WriteRefusal) → length before ≡ 272 → r ≡ write_answer p (length before)
+    → after ≡ buffer_after p before r → Composed p after (result_ok r)
+by_answer p before after (Ok n) room ea eb = (sym (composed_fits p (length before) n ea), composed p before after n ea eb)
+by_answer p before after (Err e) room ea eb = (sym (composed_not p (length before) e room ea), tt)
+
+pub length_answered : (p : Parsed) (before after : List ℕ) (r : Result ℕ WriteRefusal) (o : Option ℕ) → o ≡ result_ok r → length before ≡ 272
+    → r ≡ write_answer p (length before) → after ≡ buffer_after p before r → Composed p after o
+length_answered p before after r o e room ea eb = subst (Composed p after) (sym e) (by_answer p before after r room ea eb)

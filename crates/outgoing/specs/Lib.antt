@@ -1,4 +1,5 @@
 pub mod Puts
 pub mod Addressed
 pub mod Returns
+pub mod Classes
 pub mod Units

@@ -7,7 +7,7 @@ use Rattle.message.specs.Forms.{asks_return}
 use Rattle.message.specs.Read.{Parsed}
 use Rattle.translation.specs.declared.causes.Cause.{Cause}
 use Rattle.translation.specs.Causes.{cause_number}
-use Rattle.routing.specs.Meanings.{Tables}
+use Rattle.routing.specs.Meanings.{TablesView}
 use Rattle.routing.specs.Targets.{TargetView, at_home, away, no_target, target_for}
 use Rattle.outgoing.specs.declared.returning.Givenback.{Givenback}
 use Rattle.outgoing.specs.declared.returning.Givenback.TheVariants.{Returned, ToldHere, Discarded}
@@ -53,9 +53,9 @@ return_to own places c p (away code called) = return_put code (return_message ow
 return_to own places c p (no_target e) = record { done = Discarded; sent = [] }
 
 -- what becomes of a message with a cause
-abbrev pub gives : Tables → ℕ → ℕ → Cause → Parsed → Return
+abbrev pub gives : TablesView → ℕ → ℕ → Cause → Parsed → Return
 gives t own places c p =
     cond (returnable p) (return_to own places c p (target_for t own (return_code p) p.calling)) (record { done = Discarded; sent = [] })
 
-unfoldable pub give_back : Tables → ℕ → ℕ → Cause → Parsed → Return
+unfoldable pub give_back : TablesView → ℕ → ℕ → Cause → Parsed → Return
 give_back t own places c p = gives t own places c p

@@ -14,6 +14,7 @@ pub(crate) fn lacks_code(address: Address<'_>) -> bool
 }
 
 // The address with this code, where it lacks one.
+#[tactic(auto, using(crate::proofs::Codes::completes), unfolding(crate::specs::Addressed::completed))]
 pub(crate) fn completion(code: PointCode, address: Address<'_>) -> Option<AddressBuffer>
     ensures { or_given (buffer_found result) address.entry.octets.now ≡ completed (code_number code) address.entry.octets.now }
 {
@@ -37,5 +38,15 @@ pub fn calling_for(
         None
     } else {
         completion(own, calling)
+    }
+}
+
+// An address where it was written anew, else as given.
+pub fn or_given<'b>(anew: &'b Option<AddressBuffer>, given: Address<'b>) -> Address<'b>
+    ensures { result.octets.now ≡ or_given (buffer_found anew.now) given.entry.octets.now }
+{
+    match anew {
+        Some(buffer) => Address::new(buffer.octets()),
+        None => given,
     }
 }

@@ -5,9 +5,10 @@ ghost use Rattle.message.specs.Read.{seen};
 ghost use Rattle.outgoing.specs.Addressed.{message_passed_on};
 ghost use Rattle.outgoing.specs.Puts.{put_outcome, put_by, Behind};
 
-use crate::addressing::completion;
+use crate::addressing::{completion, or_given};
+use crate::labelling::label_to;
 use crate::putting::put_message;
-use address::{AddressBuffer, Label, PointCode};
+use address::{Address, AddressBuffer, PointCode};
 use line::Line;
 use message::{Form, Parts};
 use translation::Cause;
@@ -25,29 +26,15 @@ pub fn pass_on<L: Line>(
     ensures after { Behind L.waiting L.places line.old line.new (put_by result (message_passed_on (code_number own) (code_number code) form (buffer_octets called) (seen parts.entry))) }
     ensures declined { OnErr result (line.new ≡ line.old) }
 {
-    let label = Label {
-        dpc: code.number(),
-        opc: own.number(),
-        sls: parts.label.sls,
-    };
-    match completion(PointCode::of_bits(parts.label.opc), parts.calling) {
-        Some(calling) => put_message(
-            line,
-            label,
+    let calling = completion(PointCode::of_bits(parts.label.opc), parts.calling);
+    put_message(
+        line,
+        Parts {
+            label: label_to(code, own, parts.label.sls),
             form,
-            called.octets(),
-            calling.octets(),
-            parts.data,
-            parts.options.octets(),
-        ),
-        None => put_message(
-            line,
-            label,
-            form,
-            called.octets(),
-            parts.calling.octets(),
-            parts.data,
-            parts.options.octets(),
-        ),
-    }
+            called: Address::new(called.octets()),
+            calling: or_given(&calling, parts.calling),
+            ..parts
+        },
+    )
 }

@@ -2,18 +2,18 @@ ghost use Rattle.std.specs.Prelude.{◌≡◌};
 ghost use Rattle.address.specs.Code.{code_number};
 ghost use Rattle.address.specs.Rewrite.{buffer_octets};
 ghost use Rattle.message.specs.Read.{seen};
-ghost use Rattle.routing.specs.Meanings.{tables};
 ghost use Rattle.routing.specs.Targets.{code_given};
 ghost use Rattle.outgoing.specs.Puts.{put_outcome, put_by, Behind};
-ghost use Rattle.outgoing.specs.Returns.{returnable, return_form, return_code, return_message, return_put, gives, give_back};
+ghost use Rattle.outgoing.specs.Returns.{returnable, return_form, return_code, return_message, give_back};
 
-use crate::addressing::{calling_for, lacks_code};
+use crate::addressing::{calling_for, lacks_code, or_given};
+use crate::labelling::label_to;
 use crate::putting::put_message;
-use address::{Address, AddressBuffer, Label, PointCode};
+use address::{Address, AddressBuffer, PointCode};
 use line::Line;
 use message::{Form, Parts};
-use routing::{Target, code_of, target_for};
-use translation::{Availability, Cause, Translator};
+use routing::{Network, Node, Target, code_of};
+use translation::Cause;
 
 // What became of a message with a cause: it was returned to a code, is told to a subsystem here, or was discarded.
 #[derive(Clone, Copy)]
@@ -38,13 +38,8 @@ fn return_form(cause: Cause, form: Form) -> Form
 {
     let cause = cause.number();
     match form {
-        Form::Udt { class: _ } => Form::Udts { cause },
-        Form::Udts { cause: _ } => Form::Udts { cause },
-        Form::Xudt { class: _, hop: _ } => Form::Xudts {
-            cause,
-            hop: MOST_HOPS,
-        },
-        Form::Xudts { cause: _, hop: _ } => Form::Xudts {
+        Form::Udt { .. } | Form::Udts { .. } => Form::Udts { cause },
+        Form::Xudt { .. } | Form::Xudts { .. } => Form::Xudts {
             cause,
             hop: MOST_HOPS,
         },
@@ -74,76 +69,45 @@ fn put_return<L: Line>(
     ensures answer { result ≡ put_outcome (L.places line.old) (return_message (code_number own) (code_number code) (buffer_octets called) cause (seen parts.entry)) }
     ensures after { Behind L.waiting L.places line.old line.new (put_by result (return_message (code_number own) (code_number code) (buffer_octets called) cause (seen parts.entry))) }
 {
-    let label = Label {
-        dpc: code.number(),
-        opc: own.number(),
-        sls: parts.label.sls,
-    };
-    let form = return_form(cause, parts.form);
-    match calling_for(own, Address::new(called.octets()), parts.called) {
-        Some(calling) => put_message(
-            line,
-            label,
-            form,
-            called.octets(),
-            calling.octets(),
-            parts.data,
-            parts.options.octets(),
-        ),
-        None => put_message(
-            line,
-            label,
-            form,
-            called.octets(),
-            parts.called.octets(),
-            parts.data,
-            parts.options.octets(),
-        ),
-    }
+    let called = Address::new(called.octets());
+    let calling = calling_for(own, called, parts.called);
+    put_message(
+        line,
+        Parts {
+            label: label_to(code, own, parts.label.sls),
+            form: return_form(cause, parts.form),
+            called,
+            calling: or_given(&calling, parts.called),
+            ..parts
+        },
+    )
 }
 
-// What becomes of a message with a cause.
-fn decide_and_put<L: Line, X: Translator, V: Availability>(
+// Returns a message with a cause, where it asks for that: it is routed and addressed as what is sent, by its calling address.
+// At the own code it is told to the subsystem; where it can not go it is discarded, as all others with a cause.
+#[tactic(auto, unfolding(crate::specs::Returns::give_back))]
+pub fn give_back<L: Line, N: Network>(
     line: &mut L,
-    translator: &X,
-    availability: &V,
-    own: PointCode,
+    node: &Node<'_, N>,
     cause: Cause,
     parts: Parts<'_>,
 ) -> Givenback
-    ensures answer { result ≡ (gives (tables (X.known translator.now) (X.fit translator.now) (V.codes availability.now) (V.subsystems availability.now)) (code_number own) (L.places line.old) cause (seen parts.entry)).done }
-    ensures after { Behind L.waiting L.places line.old line.new (gives (tables (X.known translator.now) (X.fit translator.now) (V.codes availability.now) (V.subsystems availability.now)) (code_number own) (L.places line.old) cause (seen parts.entry)).sent }
+    ensures answer { result ≡ (give_back (N.told node.now.network.now) (code_number node.now.code) (L.places line.old) cause (seen parts.entry)).done }
+    ensures after { Behind L.waiting L.places line.old line.new (give_back (N.told node.now.network.now) (code_number node.now.code) (L.places line.old) cause (seen parts.entry)).sent }
 {
     if !is_returnable(parts) {
         return Givenback::Discarded;
     }
-    let code = return_code(parts);
-    match target_for(translator, availability, own, code, parts.calling) {
-        Target::Here { subsystem } => Givenback::ToldHere { subsystem },
-        Target::Away { code, called } => {
-            match put_return(line, own, code, called, cause, parts) {
+    match node.target_for(return_code(parts), parts.calling) {
+        Ok(Target::Here { subsystem }) => Givenback::ToldHere { subsystem },
+        Ok(Target::Away { code, called }) => {
+            match put_return(line, node.code, code, called, cause, parts) {
                 Ok(()) => Givenback::Returned {
                     code: code.number(),
                 },
                 Err(_) => Givenback::Discarded,
             }
         }
-        Target::Nowhere { cause: _ } => Givenback::Discarded,
+        Err(_) => Givenback::Discarded,
     }
-}
-
-// Returns a message with a cause, where it asks for that: it is routed and addressed as what is sent, by its calling address.
-// At the own code it is told to the subsystem; where it can not go it is discarded, as all others with a cause.
-pub fn give_back<L: Line, X: Translator, V: Availability>(
-    line: &mut L,
-    translator: &X,
-    availability: &V,
-    own: PointCode,
-    cause: Cause,
-    parts: Parts<'_>,
-) -> Givenback
-    ensures answer { result ≡ (give_back (tables (X.known translator.now) (X.fit translator.now) (V.codes availability.now) (V.subsystems availability.now)) (code_number own) (L.places line.old) cause (seen parts.entry)).done }
-    ensures after { Behind L.waiting L.places line.old line.new (give_back (tables (X.known translator.now) (X.fit translator.now) (V.codes availability.now) (V.subsystems availability.now)) (code_number own) (L.places line.old) cause (seen parts.entry)).sent }
-{
-    decide_and_put(line, translator, availability, own, cause, parts)
 }

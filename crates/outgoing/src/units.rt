@@ -1,29 +1,32 @@
-ghost use Rattle.std.specs.Prelude.{◌≡◌, ◌+◌, ◌<◌, ◌≤◌, true, length, OnErr};
+ghost use Rattle.std.specs.Prelude.{◌≡◌, ◌<◌, true, OnErr};
+ghost use Rattle.message.specs.Read.{seen};
+ghost use Rattle.outgoing.specs.Classes.{class_number};
 ghost use Rattle.outgoing.specs.Puts.{put_outcome, put_by, Behind};
-ghost use Rattle.outgoing.specs.Units.{heading_seen, selection, class_octet, one_message, segmentation_part, piece_message, piece_messages, Cut};
+ghost use Rattle.outgoing.specs.Units.{heading_seen, selection, class_octet, unit_message, one_message, segmentation_part, piece_message, piece_messages, Cut};
 
+use crate::classes::Class;
+use crate::labelling::label_to;
 use crate::putting::put_message;
-use address::Label;
+use crate::references::UnitReference;
+use address::{Address, PointCode};
 use line::Line;
-use message::Form;
+use message::{Form, Options, Parts};
 use translation::Cause;
 
 // What a unit goes out with: destination and origin, addresses as they are written, the class that was asked for, whether it
 // asks for return, and its sequence number.
 #[derive(Clone, Copy)]
 pub struct Outgoing<'h> {
-    pub dpc: u16,
-    pub opc: u16,
-    pub called: &'h [u8],
-    pub calling: &'h [u8],
-    pub class: u8,
+    pub dpc: PointCode,
+    pub opc: PointCode,
+    pub called: Address<'h>,
+    pub calling: Address<'h>,
+    pub class: Class,
     pub returns: bool,
     pub sequence: u32,
 }
 
 const MOST_HOPS: u8 = 15;
-
-const IN_SEQUENCE: u8 = 1;
 
 const RETURN_BIT: u8 = 128;
 
@@ -36,95 +39,103 @@ const SEGMENTATION_LENGTH: u8 = 4;
 const END: u8 = 0;
 
 // The link selection: in sequence the low 4 bits of the sequence number, else 0.
-pub fn selection(class: u8, sequence: u32) -> u8
-    ensures { result ≡ selection class sequence }
+pub fn selection(class: Class, sequence: u32) -> u8
+    ensures { result ≡ selection (class_number class) sequence }
 {
-    if class == IN_SEQUENCE {
-        (sequence % 16) as u8
-    } else {
-        0
+    match class {
+        Class::Basic => 0,
+        Class::InSequence => (sequence % 16) as u8,
     }
 }
 
-// The class octet: the protocol class, and the bit that asks for return. For the functions below, which know the class.
-fn class_octet(class: u8, returns: bool) -> u8
-    requires { class < 2 }
-    ensures { result ≡ class_octet class returns }
+// The class octet: the protocol class, and the bit that asks for return.
+fn class_octet(class: Class, returns: bool) -> u8
+    ensures { result ≡ class_octet (class_number class) returns }
 {
-    if returns { class + RETURN_BIT } else { class }
+    class.number() + if returns { RETURN_BIT } else { 0 }
 }
 
-// Segmentation and the end mark. For put_piece, which knows the ranges.
-fn segmentation_part(first: bool, class: u8, remaining: u8, reference: u32) -> [u8; 7]
-    requires { (class < 2) × ((remaining < 16) × (reference < 16777216)) }
-    ensures { result ≡ segmentation_part first class remaining reference }
+// Segmentation and the end mark. For put_piece, which knows the range.
+fn segmentation_part(first: bool, class: Class, remaining: u8, reference: UnitReference) -> [u8; 7]
+    requires { remaining < 16 }
+    ensures { result ≡ segmentation_part first (class_number class) remaining reference.number }
 {
     let first = if first { FIRST_BIT } else { 0 };
+    let about = first + 64 * class.number() + remaining;
+    let [low, middle, high, _] = reference.number().to_le_bytes();
     [
         SEGMENTATION,
         SEGMENTATION_LENGTH,
-        first + 64 * class + remaining,
-        (reference % 256) as u8,
-        (reference / 256 % 256) as u8,
-        (reference / 65_536) as u8,
+        about,
+        low,
+        middle,
+        high,
         END,
     ]
 }
 
-// Puts a unit on the line in one message. For a station, which has tested the class.
+// The parts of a message that carries a unit or a piece of it.
+fn parts_of<'p>(
+    unit: Outgoing<'p>,
+    class: Class,
+    returns: bool,
+    contents: &'p [u8],
+    options: &'p [u8],
+) -> Parts<'p>
+    ensures { seen result ≡ unit_message (heading_seen unit.entry) (class_number class) returns contents.now options.now }
+{
+    Parts {
+        label: label_to(unit.dpc, unit.opc, selection(class, unit.sequence)),
+        form: Form::Xudt {
+            class: class_octet(class, returns),
+            hop: MOST_HOPS,
+        },
+        called: unit.called,
+        calling: unit.calling,
+        data: contents,
+        options: Options::new(options),
+    }
+}
+
+// Puts a unit on the line in one message.
 pub fn put_one<'s, L: Line>(
     line: &mut L,
     unit: Outgoing<'s>,
     contents: &'s [u8],
 ) -> Result<(), Cause>
-    requires { unit.class < 2 }
     ensures answer { result ≡ put_outcome (L.places line.old) (one_message (heading_seen unit.entry) contents.now) }
     ensures after { Behind L.waiting L.places line.old line.new (put_by result (one_message (heading_seen unit.entry) contents.now)) }
     ensures declined { OnErr result (line.new ≡ line.old) }
 {
-    let label = Label {
-        dpc: unit.dpc,
-        opc: unit.opc,
-        sls: selection(unit.class, unit.sequence),
-    };
-    let form = Form::Xudt {
-        class: class_octet(unit.class, unit.returns),
-        hop: MOST_HOPS,
-    };
-    put_message(line, label, form, unit.called, unit.calling, contents, &[])
+    put_message(
+        line,
+        parts_of(unit, unit.class, unit.returns, contents, &[]),
+    )
 }
 
 // Puts one piece of a unit on the line: of class 1, and the first alone asks for return.
 fn put_piece<'s, L: Line>(
     line: &mut L,
     unit: Outgoing<'s>,
-    reference: u32,
+    reference: UnitReference,
     first: bool,
     remaining: u8,
     contents: &'s [u8],
 ) -> Result<(), Cause>
-    requires { (unit.class < 2) × ((remaining < 16) × (reference < 16777216)) }
-    ensures answer { result ≡ put_outcome (L.places line.old) (piece_message (heading_seen unit.entry) reference first remaining contents.now) }
-    ensures after { Behind L.waiting L.places line.old line.new (put_by result (piece_message (heading_seen unit.entry) reference first remaining contents.now)) }
+    requires { remaining < 16 }
+    ensures answer { result ≡ put_outcome (L.places line.old) (piece_message (heading_seen unit.entry) reference.number first remaining contents.now) }
+    ensures after { Behind L.waiting L.places line.old line.new (put_by result (piece_message (heading_seen unit.entry) reference.number first remaining contents.now)) }
 {
-    let label = Label {
-        dpc: unit.dpc,
-        opc: unit.opc,
-        sls: selection(IN_SEQUENCE, unit.sequence),
-    };
-    let form = Form::Xudt {
-        class: class_octet(IN_SEQUENCE, unit.returns && first),
-        hop: MOST_HOPS,
-    };
     let options = segmentation_part(first, unit.class, remaining, reference);
     put_message(
         line,
-        label,
-        form,
-        unit.called,
-        unit.calling,
-        contents,
-        &options,
+        parts_of(
+            unit,
+            Class::InSequence,
+            unit.returns && first,
+            contents,
+            &options,
+        ),
     )
 }
 
@@ -133,23 +144,17 @@ fn put_piece<'s, L: Line>(
 pub fn put_pieces<'s, L: Line>(
     line: &mut L,
     unit: Outgoing<'s>,
-    reference: u32,
+    reference: UnitReference,
     each: usize,
     remaining: u8,
     contents: &'s [u8],
 )
-    requires cut { Cut (heading_seen unit) reference each remaining contents.now }
+    requires cut { Cut (heading_seen unit) each remaining contents.now }
     requires room { remaining < L.places line.old }
-    ensures { Behind L.waiting L.places line.old line.new (piece_messages (heading_seen unit.entry) reference each true remaining contents.now) }
+    ensures { Behind L.waiting L.places line.old line.new (piece_messages (heading_seen unit.entry) reference.number each true remaining contents.now) }
 {
-    let mut rest = contents;
-    let mut left = remaining;
-    let mut first = true;
-    while left > 0 {
-        let _ = put_piece(line, unit, reference, first, left, &rest[0..each]);
-        rest = &rest[each..];
-        left -= 1;
-        first = false;
+    for (index, piece) in contents.chunks(each).enumerate() {
+        let left = remaining - index as u8;
+        let _ = put_piece(line, unit, reference, index == 0, left, piece);
     }
-    let _ = put_piece(line, unit, reference, first, 0, rest);
 }

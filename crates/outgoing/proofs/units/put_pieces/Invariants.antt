@@ -1,18 +1,8 @@
-use Rattle.std.proofs.Common.{◌≡◌, ◌+◌, ◌*◌, ◌<◌, ◌≤◌, true, ◌++◌, length}
-use Rattle.outgoing.specs.Units.{heading_seen, piece_messages}
+use Rattle.outgoing.specs.Units.{heading_seen}
+use Rattle.outgoing.proofs.Pieces.{PutSo}
 use Rattle.outgoing.proofs.units.put_pieces.Given as goal
 
-abbrev pub invariant-loop-left : goal.invariant-loop-left
-invariant-loop-left g l =
-    let t = g.L.Line in
-    (l.left ≤ l.remaining)
-    × (l.left < t.places l.line)
-    × (t.places l.initial.line + l.left ≤ t.places l.line + l.remaining)
-    × (t.places l.line ≤ t.places l.initial.line)
-    × (l.left * l.each < length l.rest)
-    × (length l.rest ≤ (l.left + 1) * l.each)
-    × (t.waiting l.line ++ piece_messages (heading_seen l.unit) l.reference l.each l.first l.left l.rest
-    ≡ t.waiting l.initial.line ++ piece_messages (heading_seen l.unit) l.reference l.each true l.remaining l.contents)
-
-abbrev pub decreases-loop-left : goal.decreases-loop-left
-decreases-loop-left g l = l.left
+abbrev pub invariant-loop-index : goal.invariant-loop-index
+invariant-loop-index g l =
+    PutSo g.L.Line.waiting g.L.Line.places l.initial.line (heading_seen l.unit) l.reference.number l.each l.remaining l.contents l.line
+    l.index-iterator.iter.size l.index-iterator.count l.index-iterator.iter.rest.now
