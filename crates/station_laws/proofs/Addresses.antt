@@ -1,10 +1,11 @@
 -- The addresses with which a unit goes out are good.
-use Rattle.std.proofs.Common.{◌≡◌, ℕ, ◌<◌, Bool, true, false, cond, ◌&&◌, eqb, leb, List, length, Some, None, Ok, Err, Option, Result, refl, subst, arith}
+use Rattle.std.proofs.Common.{◌≡◌, ℕ, ◌<◌, Bool, true, false, cond, ◌&&◌, eqb, leb, List, length, is_some, Some, None, Ok, Err, Option, Result, refl, subst, arith}
 use Rattle.std.proofs.lemmas.Bool.{and_parts, leb-true}
 use Rattle.address.specs.declared.codes.PointCode.{PointCode}
 use Rattle.address.specs.declared.rewriting.CodeChange.{CodeChange}
 use Rattle.address.specs.declared.rewriting.CodeChange.TheVariants.{Keep, Remove, Put}
-use Rattle.address.specs.Address.{address_ok, has_title, on_subsystem_of, subsystem_of}
+use Rattle.address.specs.Address.{address_ok, has_title, on_subsystem_of, subsystem_of, title_in}
+use Rattle.address.specs.Title.{GlobalTitle}
 use Rattle.address.specs.Rewrite.{rewrite, rewritten}
 use Rattle.address.proofs.Rewrites.{rewriting}
 use Rattle.translation.specs.declared.causes.Cause.{Cause}
@@ -13,9 +14,9 @@ use Rattle.translation.specs.declared.rules.Routing.TheVariants.{OnSubsystem}
 use Rattle.translation.specs.declared.states.CodeState.{CodeState}
 use Rattle.translation.specs.declared.states.SubsystemState.{SubsystemState}
 use Rattle.translation.specs.Trials.{code_trial, trial_of}
-use Rattle.translation.specs.Translating.{RouteView, is_on_subsystem, TranslationView, with_called, route_for}
-use Rattle.translation.proofs.Routed.{translated}
-use Rattle.routing.specs.Meanings.{Tables, translated_by}
+use Rattle.translation.specs.Translating.{RouteView, rule_for, by_rule, is_on_subsystem, TranslationView, with_called, route_for}
+use Rattle.translation.proofs.Routed.{rewritten_there}
+use Rattle.routing.specs.Meanings.{TablesView, translated_by}
 use Rattle.routing.specs.Targets.{TargetView, at_home, away, no_target, nonzero, home, away_to, goes_to, home_unless, at_subsystem, translated_target, at_title, untitled_target, titled_target, target_for}
 use Rattle.outgoing.specs.Addressed.{lacks_code, with_code, completed}
 use Rattle.outgoing.specs.Returns.{calling_for}
@@ -36,18 +37,24 @@ abbrev Translated : Result TranslationView Cause → Type 0
 Translated (Ok t) = address_ok t.called ≡ true
 Translated (Err c) = Unit {0}
 
-good_called : (t : Tables) (own : ℕ) (a : List ℕ) → address_ok a ≡ true → (r : Result RouteView Cause) → r ≡ route_for t.known t.fit t.codes t.subsystems own a → Translated (with_called a r)
+-- what is routed by its title has one
+titled : (t : TablesView) (own : ℕ) (given : Option ℕ) (r : RouteView) (x : Option GlobalTitle)
+    → Ok r ≡ by_rule t.codes t.subsystems own given (rule_for t.known t.fit x) → is_some x ≡ true
+titled t own given r None h = let z : ◌≡◌ {A = ℕ} 0 1 = cc in absurd (omega arith)
+titled t own given r (Some x) h = refl
+
+good_called : (t : TablesView) (own : ℕ) (a : List ℕ) → address_ok a ≡ true → (r : Result RouteView Cause) → r ≡ route_for t.known t.fit t.codes t.subsystems own a → Translated (with_called a r)
 good_called t own a ok (Ok r) e =
     let on = is_on_subsystem r.routing in
     good_rewritten on Remove r.subsystem a (rewrite on Remove r.subsystem a)
-    (translated t.known t.fit t.codes t.subsystems own a r (rewritten on Remove r.subsystem a) ok e refl)
+    (rewritten_there on r.subsystem a ok (titled t own (subsystem_of a) r (title_in a) e))
 good_called t own a ok (Err c) e = tt
 
 translated_if : (k : Bool) (x : Result TranslationView Cause) (c : Cause) → (k ≡ true → Translated x) → Translated (cond k x (Err c))
 translated_if true x c h = h refl
 translated_if false x c h = tt
 
-good_translation : (t : Tables) (own : ℕ) (a : List ℕ) → Translated (translated_by t own a)
+good_translation : (t : TablesView) (own : ℕ) (a : List ℕ) → Translated (translated_by t own a)
 good_translation t own a =
     let r = route_for t.known t.fit t.codes t.subsystems own a in
     translated_if (address_ok a) (with_called a r) NoTranslationOfNature (λ ok. good_called t own a ok r refl)
@@ -87,7 +94,7 @@ good_translated : (own : ℕ) (r : Result TranslationView Cause) → Translated 
 good_translated own (Ok t) h = good_cond (eqb t.route.code own) (home t.route.subsystem) (away t.route.code t.called) (good_home t.route.subsystem) h
 good_translated own (Err c) h = tt
 
-good_at_title : (t : Tables) (own c : ℕ) (a : List ℕ) → Good (at_title t own c a)
+good_at_title : (t : TablesView) (own c : ℕ) (a : List ℕ) → Good (at_title t own c a)
 good_at_title t own c a =
     let e = code_trial t.codes own c in
     let r = translated_by t own a in
@@ -98,13 +105,13 @@ good_untitled codes subsystems own None a = tt
 good_untitled codes subsystems own (Some c) a =
     good_cond (nonzero (subsystem_of a)) (at_subsystem codes subsystems own c a) (no_target NoTranslation) (good_at_subsystem codes subsystems own c a) tt
 
-good_titled : (t : Tables) (own : ℕ) (code : Option ℕ) (a : List ℕ) → Good (titled_target t own code a)
+good_titled : (t : TablesView) (own : ℕ) (code : Option ℕ) (a : List ℕ) → Good (titled_target t own code a)
 good_titled t own None a = good_translated own (translated_by t own a) (good_translation t own a)
 good_titled t own (Some c) a =
     good_cond (on_subsystem_of a && nonzero (subsystem_of a)) (at_subsystem t.codes t.subsystems own c a) (at_title t own c a)
     (good_at_subsystem t.codes t.subsystems own c a) (good_at_title t own c a)
 
-pub good_target : (t : Tables) (own : ℕ) (code : Option ℕ) (a : List ℕ) → Good (target_for t own code a)
+pub good_target : (t : TablesView) (own : ℕ) (code : Option ℕ) (a : List ℕ) → Good (target_for t own code a)
 unfolding target_for
 good_target t own code a =
     good_cond (has_title a) (titled_target t own code a) (untitled_target t.codes t.subsystems own code a)

@@ -3,7 +3,7 @@ use Rattle.std.proofs.Common.{◌≡◌, ℕ, suc, ◌+◌, ◌-◌, ◌*◌, �
 use Rattle.std.proofs.lemmas.List.{length_push, same_from_push}
 use Rattle.address.specs.Address.{address_ok}
 use Rattle.address.proofs.Rewrites.{good_parts}
-use Rattle.routing.specs.Meanings.{Tables}
+use Rattle.routing.specs.Meanings.{TablesView}
 use Rattle.station_laws.specs.Station.{Event, send, receive}
 use Rattle.station_laws.specs.Uses as uses
 use Rattle.station_laws.specs.Uses.{Use, outcome, Piece, Coming}
@@ -12,7 +12,7 @@ use Rattle.station_laws.specs.Laws.{ArrivesEntire, SentPiece, Carried, SentInPie
 
 module _ (a b sls : ℕ) (called calling : List ℕ) (class reference : ℕ) (s : ℕ) (d0 : List ℕ) (r0 : ℕ) (good : address_ok calling ≡ true) where
   -- what was sent as a piece is one where it is routed here
-  piece_of : (t : Tables) (x : List ℕ) (first : Bool) (r : ℕ) (d : List ℕ) → SentPiece a b sls called calling class reference x first r d → RoutedTo b t x s → Piece b t x (sender_of a s calling reference) first r d
+  piece_of : (t : TablesView) (x : List ℕ) (first : Bool) (r : ℕ) (d : List ℕ) → SentPiece a b sls called calling class reference x first r d → RoutedTo b t x s → Piece b t x (sender_of a s calling reference) first r d
   piece_of t x first r d p w =
       let g = good_parts calling good in
       record {
@@ -55,7 +55,7 @@ module _ (a b sls : ℕ) (called calling : List ℕ) (class reference : ℕ) (s 
   some_taken xs g (laws.continues xs' g' t places x k w) = simp length_push (omega arith)
 
   -- what is carried and taken in comes
-  comes_first : (d : List ℕ) (r : ℕ) (ys : List (List ℕ)) (t : Tables) (places : ℕ) (x : List ℕ) → Goes d r ys → RoutedTo b t x s → ys ≡ x ∷ [] → Comes d r (receive t places x ∷ [])
+  comes_first : (d : List ℕ) (r : ℕ) (ys : List (List ℕ)) (t : TablesView) (places : ℕ) (x : List ℕ) → Goes d r ys → RoutedTo b t x s → ys ≡ x ∷ [] → Comes d r (receive t places x ∷ [])
   comes_first d r ys t places x (laws.begins y p) w e =
       let f : y ≡ x = cc in
       uses.begins t places x (piece_of t x true r0 d0 (subst (λ (z : List ℕ). SentPiece a b sls called calling class reference z true r0 d0) f p) w)
@@ -64,7 +64,7 @@ module _ (a b sls : ℕ) (called calling : List ℕ) (class reference : ℕ) (s 
       let l = some_sent d' (suc r') xs' k in
       absurd (omega (arith, ap length f))
 
-  comes_on : (d : List ℕ) (r : ℕ) (ys xs : List (List ℕ)) (g : List Event) (t : Tables) (places : ℕ) (x : List ℕ) → Goes d r ys → 1 ≤ length xs → ((d' : List ℕ) (r' : ℕ) (zs : List (List ℕ)) → Goes d' r' zs → zs ≡ xs → Comes d' r' g) → RoutedTo b t x s → ys ≡ xs ++ x ∷ [] → Comes d r (receive t places x ∷ g)
+  comes_on : (d : List ℕ) (r : ℕ) (ys xs : List (List ℕ)) (g : List Event) (t : TablesView) (places : ℕ) (x : List ℕ) → Goes d r ys → 1 ≤ length xs → ((d' : List ℕ) (r' : ℕ) (zs : List (List ℕ)) → Goes d' r' zs → zs ≡ xs → Comes d' r' g) → RoutedTo b t x s → ys ≡ xs ++ x ∷ [] → Comes d r (receive t places x ∷ g)
   comes_on d r ys xs g t places x (laws.begins y p) l on w e =
       let f : [] ≡ xs = (same_from_push [] xs y x e).0 in
       absurd (omega (arith, ap length f))

@@ -12,7 +12,7 @@ use Rattle.writing.proofs.Back.{written_reads_back}
 use Rattle.pieces.specs.Pieces.{in_one, in_piece, piece_count, in_range, sendable, count_answer}
 use Rattle.pieces.proofs.Cuts.{enough, short}
 use Rattle.timed_table.specs.Table.{last_from, is_free}
-use Rattle.routing.specs.Meanings.{Tables}
+use Rattle.routing.specs.Meanings.{TablesView}
 use Rattle.routing.specs.Targets.{TargetView, at_home, away, no_target, target_for}
 use Rattle.outgoing.specs.Returns.{calling_for}
 use Rattle.outgoing.specs.Units.{Heading, selection, class_octet, segmentation_part, piece_message, piece_messages}
@@ -289,7 +289,7 @@ fine_to own places v q (away code called) asked good =
     fine_count own code called places v q (count_answer (length called) (length (calling_for own called q.calling)) (length q.contents)) asked good refl
 fine_to own places v q (no_target c) asked good = tt
 
-fine_send : (t : Tables) (own places : ℕ) (v : View) (q : Request) → own < 16384 → Fine own q (sends t own places v q)
+fine_send : (t : TablesView) (own places : ℕ) (v : View) (q : Request) → own < 16384 → Fine own q (sends t own places v q)
 fine_send t own places v q l =
     fine_check own q (address_ok q.called) 31 v _ (λ a.
     fine_check own q (address_ok q.calling) 32 v _ (λ b.

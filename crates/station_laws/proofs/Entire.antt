@@ -2,7 +2,7 @@
 use Rattle.std.proofs.Common.{◌≡◌, ℕ, suc, ◌<◌, true, false, List, [], ◌∷◌, ◌++◌, map, length, get_or, sym, refl, ap, ◌∙◌, subst, arith}
 use Rattle.std.proofs.lemmas.List.{length-map, map-append}
 use Rattle.message.specs.Read.{Parsed}
-use Rattle.routing.specs.Meanings.{Tables}
+use Rattle.routing.specs.Meanings.{TablesView}
 use Rattle.slot_laws.specs.Machine as law
 use Rattle.slot_laws.specs.Uses as laws
 use Rattle.slot_laws.proofs.Arrive as arrive
@@ -31,11 +31,11 @@ coming_felt own w d0 r0 d r g (continues d1 c1 r1 g1 t places octets j p l1 l2) 
     subst (λ (x : law.Event). laws.Sent (mark_of w) d0 r0 (d1 ++ c1) r1 (x ∷ map (felt own) g1)) (sym (piece_felt own t octets w false r1 c1 p))
     (laws.continues d1 c1 r1 (map (felt own) g1) (coming_felt own w d0 r0 d1 (suc r1) g1 j) l1 l2)
 
-told_hands : (t : Tables) (own places : ℕ) (v : View) (p : Parsed) (s : ℕ) (r : law.Receipt) (a : law.Answer) → a ≡ law.hands r
+told_hands : (t : TablesView) (own places : ℕ) (v : View) (p : Parsed) (s : ℕ) (r : law.Receipt) (a : law.Answer) → a ≡ law.hands r
     → (told_outcome t own places v p (piece_told s p a)).reply ≡ from_pieces s r
 told_hands t own places v p s r a e = ap (λ (b : law.Answer). (told_outcome t own places v p (piece_told s p b)).reply) e
 
-module _ (u : Use) (h g : List Event) (w : Sender) (c : List ℕ) (t : Tables) (places : ℕ) (octets : List ℕ) (p : Piece u.code t octets w false 0 c) where
+module _ (u : Use) (h g : List Event) (w : Sender) (c : List ℕ) (t : TablesView) (places : ℕ) (octets : List ℕ) (p : Piece u.code t octets w false 0 c) where
   abbrev last_piece : law.Event
   last_piece = law.piece (mark_of w) false 0 c
 

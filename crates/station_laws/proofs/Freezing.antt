@@ -13,7 +13,7 @@ use Rattle.timed_table.specs.declared.reference.Reference.{Reference}
 use Rattle.timed_table.specs.Table.{last_from, is_free, ticked}
 use Rattle.translation.specs.declared.causes.Cause.{Cause}
 use Rattle.translation.specs.declared.causes.Cause.TheVariants.{Unqualified, NetworkCongestion, NoReassembly}
-use Rattle.routing.specs.Meanings.{Tables}
+use Rattle.routing.specs.Meanings.{TablesView}
 use Rattle.routing.specs.Ways.{WayView, to_subsystem, onward, nowhere, way_for}
 use Rattle.routing.specs.Deliveries.{DeliveryView, as_unit, as_notice, as_piece, delivery_of}
 use Rattle.routing.specs.Targets.{TargetView, at_home, away, no_target, target_for}
@@ -68,10 +68,10 @@ still_given v w c p (Returned code) s e f = (e, f, refl)
 still_given v w c p (ToldHere t) s e f = (e, f, refl)
 still_given v w c p Discarded s e f = (e, f, refl)
 
-still_caused : (t : Tables) (own places : ℕ) (v w : View) (p : Parsed) (c : Cause) → w.frozen ≡ v.frozen → w.last ≡ v.last → Still v (caused t own places w p c)
+still_caused : (t : TablesView) (own places : ℕ) (v w : View) (p : Parsed) (c : Cause) → w.frozen ≡ v.frozen → w.last ≡ v.last → Still v (caused t own places w p c)
 still_caused t own places v w p c e f = still_given v w c p (give_back t own places c p).done (give_back t own places c p).sent e f
 
-still_piece : (t : Tables) (own places : ℕ) (v : View) (ss : List law.Slot) (s : ℕ) (p : Parsed) (a : law.Answer) → Still v (told_outcome t own places (with_slots v ss) p (piece_told s p a))
+still_piece : (t : TablesView) (own places : ℕ) (v : View) (ss : List law.Slot) (s : ℕ) (p : Parsed) (a : law.Answer) → Still v (told_outcome t own places (with_slots v ss) p (piece_told s p a))
 still_piece t own places v ss s p (law.declined n) = still_caused t own places v (with_slots v ss) p Unqualified refl refl
 still_piece t own places v ss s p (law.alone d) = (refl, refl, refl)
 still_piece t own places v ss s p (law.refused c) = still_caused t own places v (with_slots v ss) p (cond (eqb c 10) NoReassembly NetworkCongestion) refl refl
@@ -85,7 +85,7 @@ still_piece t own places v ss s p (law.lapses n) = still_caused t own places v (
 still_piece t own places v ss s p (law.released i) = still_caused t own places v (with_slots v ss) p Unqualified refl refl
 still_piece t own places v ss s p (law.copied d) = still_caused t own places v (with_slots v ss) p Unqualified refl refl
 
-still_brought : (t : Tables) (own T places : ℕ) (v : View) (s : ℕ) (p : Parsed) (d : DeliveryView) → Still v (brought t own T places v s p d)
+still_brought : (t : TablesView) (own T places : ℕ) (v : View) (s : ℕ) (p : Parsed) (d : DeliveryView) → Still v (brought t own T places v s p d)
 still_brought t own T places v s p as_unit = (refl, refl, refl)
 still_brought t own T places v s p as_notice = (refl, refl, refl)
 still_brought t own T places v s p (as_piece g) =
@@ -93,17 +93,17 @@ still_brought t own T places v s p (as_piece g) =
     still_cond v (unmarked p) (caused t own places v p Unqualified) (piece_outcome t own places v s p st)
     (still_caused t own places v v p Unqualified refl refl) (still_piece t own places v st.0 s p st.1)
 
-still_passing : (t : Tables) (own places : ℕ) (v : View) (p : Parsed) (code : ℕ) (q : Parsed) (r : Result (Unit {0}) Cause) → Still v (passing t own places v p code q r)
+still_passing : (t : TablesView) (own places : ℕ) (v : View) (p : Parsed) (code : ℕ) (q : Parsed) (r : Result (Unit {0}) Cause) → Still v (passing t own places v p code q r)
 still_passing t own places v p code q (Ok x) = (refl, refl, refl)
 still_passing t own places v p code q (Err c) = still_caused t own places v v p c refl refl
 
-still_routed : (t : Tables) (own T places : ℕ) (v : View) (p : Parsed) (w : WayView) → Still v (routed_by t own T places v p w)
+still_routed : (t : TablesView) (own T places : ℕ) (v : View) (p : Parsed) (w : WayView) → Still v (routed_by t own T places v p w)
 still_routed t own T places v p (to_subsystem s) = still_brought t own T places v s p (delivery_of p.form p.options)
 still_routed t own T places v p (onward code f called) =
     let q = message_passed_on own code f called p in still_passing t own places v p code q (put_outcome places q)
 still_routed t own T places v p (nowhere c) = still_caused t own places v v p c refl refl
 
-still_received : (t : Tables) (own T places : ℕ) (v : View) (r : Result Parsed ReadFault) → Still v (received t own T places v r)
+still_received : (t : TablesView) (own T places : ℕ) (v : View) (r : Result Parsed ReadFault) → Still v (received t own T places v r)
 still_received t own T places v (Ok p) =
     let w = way_for t own p.form p.called in
     still_cond v (eqb p.label.dpc own) (routed_by t own T places v p w) (quiet v (declined 42)) (still_routed t own T places v p w) (refl, refl, refl)
@@ -132,7 +132,7 @@ move_to own places v q (away code called) =
     move_count places v h q.contents (count_answer (length h.called) (length h.calling) (length q.contents))
 move_to own places v q (no_target c) = still refl (refl, refl, refl)
 
-move_send : (t : Tables) (own places : ℕ) (v : View) (q : Request) → Move v 0 (sends t own places v q)
+move_send : (t : TablesView) (own places : ℕ) (v : View) (q : Request) → Move v 0 (sends t own places v q)
 move_send t own places v q =
     move_check v (address_ok q.called) 31 _
     (move_check v (address_ok q.calling) 32 _

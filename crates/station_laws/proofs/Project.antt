@@ -9,7 +9,7 @@ use Rattle.pieces.specs.Pieces.{count_answer}
 use Rattle.timed_table.specs.Table.{last_from, is_free}
 use Rattle.translation.specs.declared.causes.Cause.{Cause}
 use Rattle.translation.specs.declared.causes.Cause.TheVariants.{Unqualified}
-use Rattle.routing.specs.Meanings.{Tables}
+use Rattle.routing.specs.Meanings.{TablesView}
 use Rattle.routing.specs.Ways.{WayView, to_subsystem, onward, nowhere, way_for}
 use Rattle.routing.specs.Deliveries.{DeliveryView, as_unit, as_notice, as_piece, delivery_of}
 use Rattle.routing.specs.Targets.{TargetView, at_home, away, no_target, target_for}
@@ -46,11 +46,11 @@ felt_way p (to_subsystem s) = felt_as s p (delivery_of p.form p.options)
 felt_way p (onward code f called) = nothing
 felt_way p (nowhere c) = nothing
 
-abbrev pub felt_read : ℕ → Tables → Parsed → Bool → law.Event
+abbrev pub felt_read : ℕ → TablesView → Parsed → Bool → law.Event
 felt_read own t p true = felt_way p (way_for t own p.form p.called)
 felt_read own t p false = nothing
 
-abbrev pub felt_octets : ℕ → Tables → Result Parsed ReadFault → law.Event
+abbrev pub felt_octets : ℕ → TablesView → Result Parsed ReadFault → law.Event
 felt_octets own t (Ok p) = felt_read own t p (eqb p.label.dpc own)
 felt_octets own t (Err e) = nothing
 
@@ -164,7 +164,7 @@ given_plain c p Discarded = (tt, refl)
 given_idle : {X : Type 0} (c : Cause) (p : Parsed) (g : Givenback) → declines (given_reply c p g) ≡ true → X
 given_idle c p g e = absurd (false≢true (sym (given_plain c p g).1 ∙ e))
 
-caused_aside : (t : Tables) (own places : ℕ) (v : View) (p : Parsed) (c : Cause) → Aside v (caused t own places v p c)
+caused_aside : (t : TablesView) (own places : ℕ) (v : View) (p : Parsed) (c : Cause) → Aside v (caused t own places v p c)
 caused_aside t own places v p c = record {
   slots = refl;
   plain = (given_plain c p (give_back t own places c p).done).0;
@@ -174,7 +174,7 @@ caused_aside t own places v p c = record {
 quiet_aside : (v : View) (r : Reply) → Plain r → Aside v (quiet v r)
 quiet_aside v r k = record { slots = refl; plain = k; idle = λ e. (refl, refl) }
 
-passing_aside : (t : Tables) (own places : ℕ) (v : View) (p : Parsed) (code : ℕ) (q : Parsed) (r : Result (Unit {0}) Cause) → Aside v (passing t own places v p code q r)
+passing_aside : (t : TablesView) (own places : ℕ) (v : View) (p : Parsed) (code : ℕ) (q : Parsed) (r : Result (Unit {0}) Cause) → Aside v (passing t own places v p code q r)
 passing_aside t own places v p code q (Ok _) = record { slots = refl; plain = tt; idle = λ e. absurd (false≢true e) }
 passing_aside t own places v p code q (Err c) = caused_aside t own places v p c
 
@@ -209,7 +209,7 @@ check_aside : (b : Bool) (n : ℕ) (v : View) (k : Outcome) → Aside v k → As
 check_aside true n v k a = a
 check_aside false n v k a = quiet_aside v (declined n) tt
 
-sends_aside : (t : Tables) (own places : ℕ) (v : View) (q : Request) → Aside v (sends t own places v q)
+sends_aside : (t : TablesView) (own places : ℕ) (v : View) (q : Request) → Aside v (sends t own places v q)
 sends_aside t own places v q =
     check_aside (address_ok q.called) 31 v _
     (check_aside (address_ok q.calling) 32 v _
@@ -245,7 +245,7 @@ module _ (C T : ℕ) (ss : List law.Slot) (m : List ℕ) where
   piece_piecely f r d true = taken_piecely f r d
   piece_piecely f r d false = tt
 
-module _ (t : Tables) (own places : ℕ) (v : View) (s : ℕ) (p : Parsed) (ss : List law.Slot) where
+module _ (t : TablesView) (own places : ℕ) (v : View) (s : ℕ) (p : Parsed) (ss : List law.Slot) where
   cause_follows : (c : Cause) (a : law.Answer) → Idle a → Follows v (ss, a) (caused t own places (with_slots v ss) p c)
   cause_follows c a k = record {
     slots = refl;
@@ -271,7 +271,7 @@ module _ (t : Tables) (own places : ℕ) (v : View) (s : ℕ) (p : Parsed) (ss :
   piece_follows (law.copied d) k = absurd k
 
 -- receiving
-module _ (t : Tables) (own T places : ℕ) (v : View) where
+module _ (t : TablesView) (own T places : ℕ) (v : View) where
   marked_follows : (s : ℕ) (p : Parsed) (g : Segmentation) (b : Bool)
       → Follows v (law.step own T v.slots (felt_marked s p g b))
       (cond b (caused t own places v p Unqualified)
@@ -489,11 +489,11 @@ way_no_tick p (to_subsystem s) = as_no_tick s p (delivery_of p.form p.options)
 way_no_tick p (onward code f called) = refl
 way_no_tick p (nowhere c) = refl
 
-read_no_tick : (own : ℕ) (t : Tables) (p : Parsed) (b : Bool) → laws.is_tick (felt_read own t p b) ≡ 0
+read_no_tick : (own : ℕ) (t : TablesView) (p : Parsed) (b : Bool) → laws.is_tick (felt_read own t p b) ≡ 0
 read_no_tick own t p true = way_no_tick p (way_for t own p.form p.called)
 read_no_tick own t p false = refl
 
-octets_no_tick : (own : ℕ) (t : Tables) (o : Result Parsed ReadFault) → laws.is_tick (felt_octets own t o) ≡ 0
+octets_no_tick : (own : ℕ) (t : TablesView) (o : Result Parsed ReadFault) → laws.is_tick (felt_octets own t o) ≡ 0
 octets_no_tick own t (Ok p) = read_no_tick own t p (eqb p.label.dpc own)
 octets_no_tick own t (Err e) = refl
 

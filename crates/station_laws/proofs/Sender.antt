@@ -9,7 +9,7 @@ use Rattle.message.specs.declared.parts_of_options.Segmentation.{Segmentation}
 use Rattle.message.specs.Options.{segmentation_found}
 use Rattle.message.specs.Read.{Parsed, parse}
 use Rattle.translation.specs.declared.causes.Cause.TheVariants.{Unqualified}
-use Rattle.routing.specs.Meanings.{Tables}
+use Rattle.routing.specs.Meanings.{TablesView}
 use Rattle.routing.specs.Ways.{WayView, to_subsystem, onward, nowhere, way_for}
 use Rattle.routing.specs.Deliveries.{DeliveryView, as_unit, as_notice, as_piece, segmented_as, delivery_of}
 use Rattle.outgoing.specs.Returns.{give_back}
@@ -57,7 +57,7 @@ segmented_as_is o g f r e e1 e2 =
     ∙ ap (λ (b : Bool). Some (record { first = b; class = g.class; remaining = g.remaining; reference = g.reference })) e1
     ∙ ap (λ (n : ℕ). Some (record { first = f; class = g.class; remaining = n; reference = g.reference })) e2
 
-module _ (own : ℕ) (t : Tables) (octets : List ℕ) (m : List ℕ) (f : Bool) (r : ℕ) (d : List ℕ) where
+module _ (own : ℕ) (t : TablesView) (octets : List ℕ) (m : List ℕ) (f : Bool) (r : ℕ) (d : List ℕ) where
   -- a piece of some sender with this mark
   abbrev pub Reads : Type 0
   Reads = (w : Sender) × (m ≡ mark_of w) × Piece own t octets w f r d
@@ -118,7 +118,7 @@ module _ (own : ℕ) (t : Tables) (octets : List ℕ) (m : List ℕ) (f : Bool) 
 
 -- a call that is felt as a piece received one
 pub felt_reads : (own : ℕ) (x : Event) (m : List ℕ) (f : Bool) (r : ℕ) (d : List ℕ) → felt own x ≡ law.piece m f r d
-    → (t : Tables) × (places : ℕ) × (octets : List ℕ) × (x ≡ receive t places octets) × Reads own t octets m f r d
+    → (t : TablesView) × (places : ℕ) × (octets : List ℕ) × (x ≡ receive t places octets) × Reads own t octets m f r d
 felt_reads own (send t places q) m f r d e = absurd (let z : ◌≡◌ {A = ℕ} 0 1 = cc in omega arith)
 felt_reads own (receive t places octets) m f r d e = (t, places, octets, refl, octets_read own t octets m f r d (parse octets) refl e)
 felt_reads own tick m f r d e = absurd (let z : ◌≡◌ {A = ℕ} 0 1 = cc in omega arith)
@@ -127,7 +127,7 @@ felt_reads own (release c) m f r d e = absurd (let z : ◌≡◌ {A = ℕ} 0 1 =
 
 -- A piece is felt as one, and the station takes it so.
 
-module _ (own : ℕ) (t : Tables) (octets : List ℕ) (w : Sender) (f : Bool) (r : ℕ) (d : List ℕ) (k : Piece own t octets w f r d) where
+module _ (own : ℕ) (t : TablesView) (octets : List ℕ) (w : Sender) (f : Bool) (r : ℕ) (d : List ℕ) (k : Piece own t octets w f r d) where
   abbrev piece_head : Segmentation
   piece_head = record { first = f; class = k.user_class; remaining = r; reference = w.reference }
 
@@ -175,7 +175,7 @@ module _ (own : ℕ) (t : Tables) (octets : List ℕ) (w : Sender) (f : Bool) (r
       ∙ ap (λ (x : law.Event). taken_as places v (law.step own T v.slots x)) as_sent
 
 -- a unit from pieces goes to the subsystem of the last piece
-told_from : (t : Tables) (own places : ℕ) (v : View) (p : Parsed) (s z : ℕ) (r : law.Receipt) (a : law.Answer)
+told_from : (t : TablesView) (own places : ℕ) (v : View) (p : Parsed) (s z : ℕ) (r : law.Receipt) (a : law.Answer)
     → (told_outcome t own places v p (piece_told s p a)).reply ≡ from_pieces z r → s ≡ z
 told_from t own places v p s z r (law.declined n) e = absurd (subst Plain e (given_plain Unqualified p (give_back t own places Unqualified p).done).0)
 told_from t own places v p s z r (law.alone d) e = absurd (let y : ◌≡◌ {A = ℕ} 0 1 = cc in omega arith)
@@ -190,7 +190,7 @@ told_from t own places v p s z r (law.lapses n) e = absurd (subst Plain e (given
 told_from t own places v p s z r (law.released i) e = absurd (subst Plain e (given_plain Unqualified p (give_back t own places Unqualified p).done).0)
 told_from t own places v p s z r (law.copied d) e = absurd (subst Plain e (given_plain Unqualified p (give_back t own places Unqualified p).done).0)
 
-subsystem_told_is : (own T : ℕ) (t : Tables) (places : ℕ) (octets : List ℕ) (w : Sender) (f : Bool) (r : ℕ) (d : List ℕ) → Piece own t octets w f r d
+subsystem_told_is : (own T : ℕ) (t : TablesView) (places : ℕ) (octets : List ℕ) (w : Sender) (f : Bool) (r : ℕ) (d : List ℕ) → Piece own t octets w f r d
     → (v : View) (s : ℕ) (q : law.Receipt) → (station_step own T v (receive t places octets)).reply ≡ from_pieces s q → w.subsystem ≡ s
 subsystem_told_is own T t places octets w f r d k v s q e =
     told_from t own places _ k.message w.subsystem s q (law.step own T v.slots (law.piece (mark_of w) f r d)).1

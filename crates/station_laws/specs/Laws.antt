@@ -8,7 +8,7 @@ use Rattle.pieces.specs.Pieces.{piece_count}
 use Rattle.slot_laws.specs.Machine as law
 use Rattle.slot_laws.specs.Uses.{Mem, counts_opened, counts_handed, counts_broken, counts_lapsed}
 use Rattle.outgoing.specs.Puts.{label_to}
-use Rattle.routing.specs.Meanings.{Tables}
+use Rattle.routing.specs.Meanings.{TablesView}
 use Rattle.routing.specs.Ways.{to_subsystem, way_for}
 use Rattle.station_laws.specs.Station.{Reply, declined, unread, no_way, handed_up, notice, from_pieces, by_slots, passed_on, returned, told_here, discarded, sent_here, sent_one, sent_pieces, Request, Event, send, receive, tick, copy}
 use Rattle.station_laws.specs.Uses.{Use, after, outcome, tick_count, Sender, Joined, HandedUp, Unreleased, Piece, Apart, Coming}
@@ -119,7 +119,7 @@ CopiesGive u h e r x =
 -- where a slot is free at the first and fewer than T ticks come from first to last; and copying gives it until its slot is released
 abbrev pub ArrivesEntire : Use → Type 0
 ArrivesEntire u =
-    (h g : List Event) (w : Sender) (d0 d c : List ℕ) (r0 i : ℕ) (t : Tables) (places : ℕ) (octets : List ℕ)
+    (h g : List Event) (w : Sender) (d0 d c : List ℕ) (r0 i : ℕ) (t : TablesView) (places : ℕ) (octets : List ℕ)
     → 1 ≤ r0 → r0 ≤ 15 → 1 ≤ length d0 → length d0 ≤ 255
     → i < u.slots → slice_index_or (after u h).slots i law.free ≡ law.free
     → Coming u.code w d0 r0 d 1 g → Piece u.code t octets w false 0 c → 1 ≤ length c → length c ≤ 255
@@ -172,7 +172,7 @@ pub record UnitSent (own code count reference sls : ℕ) (q : Request) (sent : L
 -- of a station whose code is a point code, and that sends to a point code
 abbrev pub SentInPieces : Use → Type 0
 SentInPieces u =
-    (h : List Event) (t : Tables) (places : ℕ) (q : Request) (code count reference sls : ℕ)
+    (h : List Event) (t : TablesView) (places : ℕ) (q : Request) (code count reference sls : ℕ)
     → u.code < 16384 → code < 16384
     → (outcome u h (send t places q)).reply ≡ sent_pieces code count reference sls
     → UnitSent u.code code count reference sls q (outcome u h (send t places q)).sent
@@ -215,14 +215,14 @@ DeclinedAltersNothing u =
 -- From station to station.
 
 -- what these octets read as is routed to the subsystem s at the station of the code own
-abbrev pub RoutedTo : ℕ → Tables → List ℕ → ℕ → Type 0
+abbrev pub RoutedTo : ℕ → TablesView → List ℕ → ℕ → Type 0
 RoutedTo own t octets s = (p : Parsed) → parse octets ≡ Ok p → way_for t own p.form p.called ≡ to_subsystem s
 
 -- these messages are received in order, each routed to the sender's subsystem here, with any other calls between but no other piece of the sender
 pub data TakenIn (own : ℕ) (w : Sender) : List (List ℕ) → List Event → Type 0 where
-  begins : (t : Tables) (places : ℕ) (x : List ℕ) → RoutedTo own t x w.subsystem → TakenIn own w (x ∷ []) (receive t places x ∷ [])
+  begins : (t : TablesView) (places : ℕ) (x : List ℕ) → RoutedTo own t x w.subsystem → TakenIn own w (x ∷ []) (receive t places x ∷ [])
   between : (xs : List (List ℕ)) (g : List Event) (e : Event) → TakenIn own w xs g → Apart own w e → TakenIn own w xs (e ∷ g)
-  continues : (xs : List (List ℕ)) (g : List Event) (t : Tables) (places : ℕ) (x : List ℕ)
+  continues : (xs : List (List ℕ)) (g : List Event) (t : TablesView) (places : ℕ) (x : List ℕ)
       → TakenIn own w xs g → RoutedTo own t x w.subsystem → TakenIn own w (xs ++ x ∷ []) (receive t places x ∷ g)
 
 abbrev pub sender_of : ℕ → ℕ → List ℕ → ℕ → Sender
@@ -232,11 +232,11 @@ sender_of origin s calling reference = record { origin = origin; subsystem = s; 
 -- slot free at the first and fewer than T ticks from first to last, is handed up there entire; sent is all that a put on its line, x the last of it
 abbrev pub FromStationToStation : Use → Use → Type 0
 FromStationToStation a b =
-    (h : List Event) (t : Tables) (places : ℕ) (q : Request) (count reference sls : ℕ)
+    (h : List Event) (t : TablesView) (places : ℕ) (q : Request) (count reference sls : ℕ)
     → a.code < 16384 → b.code < 16384
     → (outcome a h (send t places q)).reply ≡ sent_pieces b.code count reference sls
     → (calling : List ℕ)
-    × ((k g : List Event) (s i : ℕ) (u : Tables) (room : ℕ) (xs : List (List ℕ)) (x : List ℕ)
+    × ((k g : List Event) (s i : ℕ) (u : TablesView) (room : ℕ) (xs : List (List ℕ)) (x : List ℕ)
     → (outcome a h (send t places q)).sent ≡ xs ++ x ∷ []
     → i < b.slots → slice_index_or (after b k).slots i law.free ≡ law.free
     → TakenIn b.code (sender_of a.code s calling reference) xs g → RoutedTo b.code u x s

@@ -13,7 +13,7 @@ use Rattle.timed_table.specs.declared.reference.Reference.{Reference}
 use Rattle.timed_table.specs.Table.{last_from, is_free, ticked}
 use Rattle.translation.specs.declared.causes.Cause.{Cause}
 use Rattle.translation.specs.declared.causes.Cause.TheVariants.{NetworkCongestion, Unqualified, NoReassembly}
-use Rattle.routing.specs.Meanings.{Tables}
+use Rattle.routing.specs.Meanings.{TablesView}
 use Rattle.routing.specs.Ways.{WayView, to_subsystem, onward, nowhere, way_for}
 use Rattle.routing.specs.Deliveries.{DeliveryView, as_unit, as_notice, as_piece, delivery_of}
 use Rattle.routing.specs.Targets.{TargetView, at_home, away, no_target, target_for}
@@ -78,7 +78,7 @@ abbrev pub given_outcome : View → Cause → Parsed → Return → Outcome
 given_outcome v c p r = record { after = v; reply = given_reply c p r.done; sent = r.sent }
 
 -- a message with a cause
-abbrev pub caused : Tables → ℕ → ℕ → View → Parsed → Cause → Outcome
+abbrev pub caused : TablesView → ℕ → ℕ → View → Parsed → Cause → Outcome
 caused t own places v p c = given_outcome v c p (give_back t own places c p)
 
 -- the station's mark: origin, subsystem here, the octets of the calling address, reference
@@ -100,11 +100,11 @@ piece_told s p (law.lapses n) = Err Unqualified
 piece_told s p (law.released i) = Err Unqualified
 piece_told s p (law.copied d) = Err Unqualified
 
-abbrev pub told_outcome : Tables → ℕ → ℕ → View → Parsed → Result Reply Cause → Outcome
+abbrev pub told_outcome : TablesView → ℕ → ℕ → View → Parsed → Result Reply Cause → Outcome
 told_outcome t own places v p (Ok r) = quiet v r
 told_outcome t own places v p (Err c) = caused t own places v p c
 
-abbrev pub piece_outcome : Tables → ℕ → ℕ → View → ℕ → Parsed → law.Step → Outcome
+abbrev pub piece_outcome : TablesView → ℕ → ℕ → View → ℕ → Parsed → law.Step → Outcome
 piece_outcome t own places v s p step = told_outcome t own places (with_slots v step.0) p (piece_told s p step.1)
 
 -- the piece that a message with this segmentation is to the slots
@@ -116,28 +116,28 @@ abbrev pub unmarked : Parsed → Bool
 unmarked p = nat_lt (length p.calling) 2 || nat_lt 32 (length p.calling)
 
 -- brought to the subsystem s: a notice, a unit, or a piece
-abbrev pub brought : Tables → ℕ → ℕ → ℕ → View → ℕ → Parsed → DeliveryView → Outcome
+abbrev pub brought : TablesView → ℕ → ℕ → ℕ → View → ℕ → Parsed → DeliveryView → Outcome
 brought t own T places v s p as_unit = quiet v (handed_up s p)
 brought t own T places v s p as_notice = quiet v (notice s p)
 brought t own T places v s p (as_piece g) =
     cond (unmarked p) (caused t own places v p Unqualified) (piece_outcome t own places v s p (law.step own T v.slots (piece_of s p g)))
 
-abbrev pub passing : Tables → ℕ → ℕ → View → Parsed → ℕ → Parsed → Result (Unit {0}) Cause → Outcome
+abbrev pub passing : TablesView → ℕ → ℕ → View → Parsed → ℕ → Parsed → Result (Unit {0}) Cause → Outcome
 passing t own places v p code q (Ok _) = record { after = v; reply = passed_on code; sent = encode q ∷ [] }
 passing t own places v p code q (Err c) = caused t own places v p c
 
-abbrev pub routed_by : Tables → ℕ → ℕ → ℕ → View → Parsed → WayView → Outcome
+abbrev pub routed_by : TablesView → ℕ → ℕ → ℕ → View → Parsed → WayView → Outcome
 routed_by t own T places v p (to_subsystem s) = brought t own T places v s p (delivery_of p.form p.options)
 routed_by t own T places v p (onward code f called) =
     passing t own places v p code (message_passed_on own code f called p) (put_outcome places (message_passed_on own code f called p))
 routed_by t own T places v p (nowhere c) = caused t own places v p c
 
 -- a message that was read: 42 where it is not for this code
-abbrev pub routed : Tables → ℕ → ℕ → ℕ → View → Parsed → Outcome
+abbrev pub routed : TablesView → ℕ → ℕ → ℕ → View → Parsed → Outcome
 routed t own T places v p = cond (p.label.dpc == own) (routed_by t own T places v p (way_for t own p.form p.called)) (quiet v (declined 42))
 
 -- octets: 41 where they do not read, with the fault
-abbrev pub received : Tables → ℕ → ℕ → ℕ → View → Result Parsed ReadFault → Outcome
+abbrev pub received : TablesView → ℕ → ℕ → ℕ → View → Result Parsed ReadFault → Outcome
 received t own T places v (Ok p) = routed t own T places v p
 received t own T places v (Err e) = quiet v (unread 41 e)
 
@@ -208,7 +208,7 @@ send_to own places v q (no_target c) = quiet v (no_way 35 c)
 abbrev pub unit_length : ℕ → Bool
 unit_length n = nat_le 1 n && nat_le n 3952
 
-abbrev pub sends : Tables → ℕ → ℕ → View → Request → Outcome
+abbrev pub sends : TablesView → ℕ → ℕ → View → Request → Outcome
 sends t own places v q =
     check (address_ok q.called) 31 v
     (check (address_ok q.calling) 32 v
@@ -218,8 +218,8 @@ sends t own places v q =
 
 -- The calls: send and receive with what the tables mean and the places of the line; tick; copy by a receipt into a buffer of so many octets; release.
 pub data Event : Type 0 where
-  send : Tables → ℕ → Request → Event
-  receive : Tables → ℕ → List ℕ → Event
+  send : TablesView → ℕ → Request → Event
+  receive : TablesView → ℕ → List ℕ → Event
   tick : Event
   copy : law.Receipt → ℕ → Event
   release : law.Receipt → Event

@@ -7,7 +7,7 @@ use Rattle.message.specs.Read.{Parsed, parse}
 use Rattle.slot_laws.specs.Machine as law
 use Rattle.slot_laws.specs.Uses.{Mem}
 use Rattle.timed_table.specs.declared.entry.Entry.TheVariants.{Free}
-use Rattle.routing.specs.Meanings.{Tables}
+use Rattle.routing.specs.Meanings.{TablesView}
 use Rattle.routing.specs.Ways.{to_subsystem, way_for}
 use Rattle.station_laws.specs.Station.{View, from_pieces, by_slots, Outcome, Event, send, receive, tick, copy, release, station_step}
 
@@ -54,7 +54,7 @@ pub record Sender : Type 0 where
   pub reference : ℕ
 
 -- octets that are a piece of this sender, to the station of the code own: they read as an XUDT with segmentation, and are routed to the subsystem here
-pub record Piece (own : ℕ) (t : Tables) (octets : List ℕ) (w : Sender) (first : Bool) (remaining : ℕ) (d : List ℕ) : Type 0 where
+pub record Piece (own : ℕ) (t : TablesView) (octets : List ℕ) (w : Sender) (first : Bool) (remaining : ℕ) (d : List ℕ) : Type 0 where
   pub message : Parsed
   pub class : ℕ
   pub hop : ℕ
@@ -74,7 +74,7 @@ pub record Piece (own : ℕ) (t : Tables) (octets : List ℕ) (w : Sender) (firs
 -- the call numbered p received a piece of this sender
 abbrev pub PieceAt : Use → List Event → ℕ → Sender → Bool → ℕ → List ℕ → Type 0
 PieceAt u h p w first remaining d =
-    (t : Tables) × (places : ℕ) × (octets : List ℕ) × At h p (receive t places octets) × Piece u.code t octets w first remaining d
+    (t : TablesView) × (places : ℕ) × (octets : List ℕ) × At h p (receive t places octets) × Piece u.code t octets w first remaining d
 
 -- octets joined from the pieces at these places, the newest first, all of one sender: the oldest alone has the first bit, and remaining falls by ones down to r
 pub data Joined (u : Use) (h : List Event) (w : Sender) : List ℕ → ℕ → List ℕ → Type 0 where
@@ -96,14 +96,14 @@ Unreleased u (e ∷ h) k i = (k < length h → (outcome u h e).reply ≢ by_slot
 -- the call brings no piece of this sender
 abbrev pub Apart : ℕ → Sender → Event → Type 0
 Apart own w e =
-    (t : Tables) (places : ℕ) (octets : List ℕ) (first : Bool) (remaining : ℕ) (d : List ℕ)
+    (t : TablesView) (places : ℕ) (octets : List ℕ) (first : Bool) (remaining : ℕ) (d : List ℕ)
     → e ≡ receive t places octets → Piece own t octets w first remaining d → ⊥
 
 -- the calls bring the pieces of a unit of this sender in order, with any others between but no other piece of the sender:
 -- a first piece d0 with r0 remaining, then later ones, each of 1 to 255 octets; so far they make d, and r remain
 pub data Coming (own : ℕ) (w : Sender) (d0 : List ℕ) (r0 : ℕ) : List ℕ → ℕ → List Event → Type 0 where
-  begins : (t : Tables) (places : ℕ) (octets : List ℕ) → Piece own t octets w true r0 d0 → Coming own w d0 r0 d0 r0 (receive t places octets ∷ [])
+  begins : (t : TablesView) (places : ℕ) (octets : List ℕ) → Piece own t octets w true r0 d0 → Coming own w d0 r0 d0 r0 (receive t places octets ∷ [])
   between : (d : List ℕ) (r : ℕ) (g : List Event) (e : Event) → Coming own w d0 r0 d r g → Apart own w e → Coming own w d0 r0 d r (e ∷ g)
-  continues : (d c : List ℕ) (r : ℕ) (g : List Event) (t : Tables) (places : ℕ) (octets : List ℕ)
+  continues : (d c : List ℕ) (r : ℕ) (g : List Event) (t : TablesView) (places : ℕ) (octets : List ℕ)
       → Coming own w d0 r0 d (suc r) g → Piece own t octets w false r c → 1 ≤ length c → length c ≤ 255
       → Coming own w d0 r0 (d ++ c) r (receive t places octets ∷ g)
