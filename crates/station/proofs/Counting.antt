@@ -1,5 +1,5 @@
 -- How many messages a unit needs, and what follows from it.
-use Rattle.std.proofs.Common.{◌≡◌, ℕ, zero, suc, ◌+◌, ◌-◌, ◌*◌, ◌/◌, ◌<◌, ◌≤◌, Bool, true, false, cond, ◌&&◌, eqb, leb, List, length, IfErr, None, Ok, Err, Result, sym, refl, ap, one-mul, arith}
+use Rattle.std.proofs.Common.{◌≡◌, ℕ, zero, suc, ◌+◌, ◌-◌, ◌*◌, ◌/◌, ◌≤◌, Bool, true, false, cond, ◌&&◌, eqb, leb, List, length, IfErr, None, Ok, Err, Result, sym, refl, ap, subst, one-mul, arith}
 use Rattle.std.proofs.lemmas.Bool.{and_parts, cond-true, cond_both, leb-true, leb-false}
 use Rattle.translation.specs.declared.causes.Cause.{Cause}
 use Rattle.translation.specs.declared.causes.Cause.TheVariants.{Unqualified, NetworkCongestion}
@@ -62,9 +62,9 @@ not_placed true x c e = refl
 not_placed false x c e = absurd (let z : ◌≡◌ {A = ℕ} 0 1 = cc in omega arith)
 
 -- a unit that goes in pieces is cut so
-pub cut_so : (h : Heading) (d : List ℕ) (reference m : ℕ) → h.class < 2 → reference < 16777216 → 2 ≤ m
-    → m ≡ count_answer (length h.called) (length h.calling) (length d) → Cut h reference (in_piece (length h.called) (length h.calling)) (m - 1) d
-cut_so h d reference m class small two e =
+cut_so : (h : Heading) (d : List ℕ) (m : ℕ) → 2 ≤ m → m ≡ count_answer (length h.called) (length h.calling) (length d)
+    → Cut h (in_piece (length h.called) (length h.calling)) (m - 1) d
+cut_so h d m two e =
     let a = length h.called in
     let b = length h.calling in
     let n = length d in
@@ -75,13 +75,15 @@ cut_so h d reference m class small two e =
     record {
       called = r.1;
       calling = r.3;
-      class = class;
-      number = small;
       each = refl;
       few = omega (arith, k.most);
       long = k.above;
       short = omega (arith, k.within, ap (λ j. j * in_piece a b) same);
     }
+
+pub cut_by : (h : Heading) (d : List ℕ) (m n : ℕ) → 2 ≤ m → m ≡ count_answer (length h.called) (length h.calling) (length d)
+    → n ≡ in_piece (length h.called) (length h.calling) → Cut h n (m - 1) d
+cut_by h d m n two e each = subst (λ k. Cut h k (m - 1) d) (sym each) (cut_so h d m two e)
 
 -- two messages and more are pieces
 pub by_many : (places : ℕ) (v : View) (h : Heading) (d : List ℕ) (m : ℕ) → 2 ≤ m

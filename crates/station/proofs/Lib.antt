@@ -1,4 +1,3 @@
-pub mod Same
-pub mod Bringing
+pub mod Taking
 pub mod Opened
 pub mod Counting

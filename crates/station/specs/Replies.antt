@@ -1,16 +1,16 @@
 -- The answers of the calls, as the laws speak of them: every case with its values, and every refusal with its number.
-use Rattle.std.specs.Prelude.{ℕ, Ok, Err, Result}
-use Rattle.message.specs.Read.{seen}
+use Rattle.std.specs.Prelude.{◌≡◌, ℕ, List, Ok, Err, Result}
+use Rattle.message.specs.Read.{Parsed, seen}
 use Rattle.translation.specs.declared.causes.Cause.{Cause}
 use Rattle.slot_laws.specs.Machine as law
-use Rattle.slot_area.specs.Answers.{receipt_of}
-use Rattle.station_laws.specs.Station.{Reply, declined, unread, no_way, handed_up, notice, from_pieces, by_slots, passed_on, returned, told_here, discarded, sent_here, sent_one, sent_pieces}
+use Rattle.slots.specs.Answers.{receipt_of}
+use Rattle.routing.specs.Meanings.{TablesView}
+use Rattle.outgoing.specs.Puts.{Behind}
+use Rattle.station_laws.specs.Station.{View, Outcome, caused, Reply, declined, unread, no_way, handed_up, notice, from_pieces, by_slots, passed_on, returned, told_here, discarded, sent_here, sent_one, sent_pieces}
 use Rattle.station.specs.declared.answers.Received.{Received}
 use Rattle.station.specs.declared.answers.Received.TheVariants as received
 use Rattle.station.specs.declared.answers.Sent.{Sent}
 use Rattle.station.specs.declared.answers.Sent.TheVariants as sent
-use Rattle.station.specs.declared.answers.Dispatched.{Dispatched}
-use Rattle.station.specs.declared.answers.Dispatched.TheVariants as dispatched
 use Rattle.station.specs.declared.refusals.ReceiveRefusal.{ReceiveRefusal}
 use Rattle.station.specs.declared.refusals.ReceiveRefusal.TheVariants as receive
 use Rattle.station.specs.declared.refusals.SendRefusal.{SendRefusal}
@@ -41,6 +41,11 @@ abbrev pub piece_reply : Result Received Cause → Result Reply Cause
 piece_reply (Ok r) = Ok (received_as r)
 piece_reply (Err c) = Err c
 
+-- the outcome of a message that was brought here or passed on; or, with the line as it was, that of the cause against it
+abbrev pub Follows : {L : Type 0} → (L → List (List ℕ)) → (L → ℕ) → L → L → TablesView → ℕ → View → Parsed → Outcome → Result Received Cause → Type 0
+Follows waiting places before after t own v p o (Ok r) = (received_as r ≡ o.reply) × (v ≡ o.after) × Behind waiting places before after o.sent
+Follows waiting places before after t own v p o (Err c) = (after ≡ before) × (o ≡ caused t own (places before) v p c)
+
 abbrev pub refused_as : SendRefusal → Reply
 refused_as send.CalledAddress = declined 31
 refused_as send.CallingAddress = declined 32
@@ -59,12 +64,3 @@ sent_as (sent.Pieces c n r l) = sent_pieces c n r l
 abbrev pub send_reply : Result Sent SendRefusal → Reply
 send_reply (Ok s) = sent_as s
 send_reply (Err e) = refused_as e
-
--- how a unit went out to a code
-abbrev pub dispatched_as : ℕ → Dispatched → Reply
-dispatched_as code (dispatched.One l) = sent_one code l
-dispatched_as code (dispatched.Cut n r l) = sent_pieces code n r l
-
-abbrev pub dispatch_reply : ℕ → Result Dispatched SendRefusal → Reply
-dispatch_reply code (Ok d) = dispatched_as code d
-dispatch_reply code (Err e) = refused_as e

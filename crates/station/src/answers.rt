@@ -1,5 +1,5 @@
 use message::Parts;
-use slot_area::receipt::Receipt;
+use slots::Receipt;
 use translation::Cause;
 
 // What became of a message that was received. The subsystem is one here, and the parts are the message's own, as it came.
@@ -64,19 +64,6 @@ pub enum Sent<'d> {
     },
     Pieces {
         code: u16,
-        count: usize,
-        reference: u32,
-        sls: u8,
-    },
-}
-
-// How a unit went out.
-#[derive(Clone, Copy)]
-pub enum Dispatched {
-    One {
-        sls: u8,
-    },
-    Cut {
         count: usize,
         reference: u32,
         sls: u8,

@@ -18,11 +18,9 @@ pub use line::Line;
 pub use message::{Message, Parts, ReadFault, read};
 pub use refusals::{ReceiveRefusal, SendRefusal};
 pub use requests::UnitDataRequest;
-pub use slot_area::receipt::Receipt;
-pub use slot_parts::load::Load;
-pub use slot_parts::refusals::{CopyRefusal, ReleaseRefusal, SettingsRefusal};
-pub use slot_parts::settings::Settings;
-pub use timed_table::entry::Entry;
-pub use timed_table::reference::Reference;
-pub use timed_table::station_mark::StationMark;
+pub use routing::{Network, Tables};
+pub use slots::{
+    CopyRefusal, Entry, Load, Receipt, Reference, ReleaseRefusal, Settings, SettingsRefusal,
+    StationMark,
+};
 pub use translation::{Availability, Cause, Translator};

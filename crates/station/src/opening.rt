@@ -1,19 +1,15 @@
 ghost use Rattle.std.specs.Prelude.{◌≡◌, min, List, [], map, length, take, drop};
 ghost use Rattle.timed_table.specs.declared.entry.Entry.TheVariants.{Free};
-ghost use Rattle.slot_area.specs.Pieces.{slots_of};
+ghost use Rattle.slots.specs.Pieces.{slots_of};
 ghost use Rattle.station_laws.specs.Figures.{HopOnTitle, HopOnSubsystem};
 ghost use Rattle.station_laws.specs.Laws.{Account, NoOpeningOutlives, OneSender, Kept, ArrivesEntire, SentInPieces, NeverShared, DeclinedAltersNothing, FromStationToStation};
 ghost use Rattle.station_laws.specs.Uses.{Use, after};
 ghost use Rattle.station.specs.Views.{seen, use_of};
 
 use crate::held::Station;
-use slot_area::area::SlotArea;
-use slot_parts::load::Load;
-use slot_parts::settings::Settings;
-use timed_table::entry::Entry;
+use outgoing::UnitReference;
+use slots::{Entry, Load, Reference, Settings, Slots, StationMark};
 use timed_table::lent::TimedTable;
-use timed_table::reference::Reference;
-use timed_table::station_mark::StationMark;
 
 // A station has at most so many reference entries.
 pub const REFERENCES_MOST: usize = 64;
@@ -28,10 +24,10 @@ impl<'a> Station<'a> {
         references: &'a mut [Entry<Reference, ()>],
         store: &'a mut [u8],
     ) -> Station<'a>
-        ensures settings { result.settings ≡ settings }
-        ensures records { result.area.table.entries.now ≡ map (λ _. Free) (take (slots_of (length records.old) (length store.old)) records.old) }
-        ensures beyond { result.area.table.beyond.now ≡ drop (slots_of (length records.old) (length store.old)) records.old }
-        ensures store { result.area.store.octets.now ≡ store.old }
+        ensures settings { result.slots.settings ≡ settings }
+        ensures records { result.slots.table.entries.now ≡ map (λ _. Free) (take (slots_of (length records.old) (length store.old)) records.old) }
+        ensures beyond { result.slots.table.beyond.now ≡ drop (slots_of (length records.old) (length store.old)) records.old }
+        ensures store { result.slots.store.octets.now ≡ store.old }
         ensures references { result.references.entries.now ≡ map (λ _. Free) (take (min (length references.old) 64) references.old) }
         ensures references_beyond { result.references.beyond.now ≡ drop (min (length references.old) 64) references.old }
         ensures seen { seen result ≡ after (use_of settings records.old references.old store.old) [] }
@@ -47,13 +43,10 @@ impl<'a> Station<'a> {
         ensures hop_on_title { HopOnTitle }
         ensures hop_on_subsystem { HopOnSubsystem }
     {
-        let area = SlotArea::open(records, store);
-        let references = TimedTable::over(references, REFERENCES_MOST);
         Station {
-            settings,
-            area,
-            references,
-            last: 0,
+            slots: Slots::open(settings, records, store),
+            references: TimedTable::over(references, REFERENCES_MOST),
+            last: UnitReference::zero(),
         }
     }
 }

@@ -8,6 +8,7 @@ pub struct UnitDataRequest<'d> {
     pub called: Address<'d>,
     pub calling: Address<'d>,
     pub data: &'d [u8],
+    // Stays: a class of its own type would ask more of callers; a number that is no class is refused.
     pub class: u8,
     pub return_option: bool,
     pub sequence: u32,

@@ -1,4 +1,4 @@
-use Rattle.std.proofs.Common.{◌≤◌, min, length, refl, ◌∙◌, arith}
+use Rattle.std.proofs.Common.{◌≤◌, min, length, ◌∙◌, arith}
 use Rattle.station_laws.proofs.Project.{account, declined_alters_nothing}
 use Rattle.station_laws.proofs.Outlive.{no_opening_outlives}
 use Rattle.station_laws.proofs.Sender.{one_sender, kept}
@@ -14,19 +14,19 @@ use Rattle.station.proofs.held.Station.open.Goals as goal
 pub returns : goal.returns
 returns c =
     let u = use_of c.args.settings c.args.records.now c.args.references.now c.args.store.now in
-    let o = c.open-area.ensures in
-    let f = c.over-references.ensures in
+    let o = c.open.ensures in
+    let f = c.over.ensures in
     let t : 10 ≤ c.args.settings.ticks = c.args.settings.long in
     let n = min (length c.args.references.now) 64 in
     let frozen = f.table ∙ free_entries n c.args.references.now (omega arith) in
     record {
-      settings = refl;
-      records = o.table;
+      settings = o.settings;
+      records = o.records;
       beyond = o.beyond;
       store = o.store;
       references = f.table;
       references_beyond = f.beyond;
-      seen = λ i. record { slots = o.seen i; frozen = frozen i; last = 0 };
+      seen = λ i. record { slots = o.seen i; frozen = frozen i; last = c.zero.ensures i };
       one_sender = one_sender u;
       kept = kept u;
       arrives_entire = arrives_entire u;
