@@ -1,11 +1,18 @@
 ghost use Rattle.std.specs.Prelude.{◌≡◌};
 ghost use Rattle.timed_table.specs.Marks.{same_numbers};
-ghost use Rattle.mezgalt.specs.ListMarks.{list_numbers};
 
-use crate::list_mark::ListMark;
 use crate::words;
 use crate::words::BadLine;
 use slots::Mark;
+use std::alloc::Global;
+
+const MOST_NUMBERS: usize = 8;
+
+// A mark that is a list of up to eight numbers.
+#[derive(Drop)]
+pub struct ListMark {
+    numbers: Vec<u32>,
+}
 
 fn same_numbers(a: &[u32], b: &[u32]) -> bool
     ensures { result ≡ same_numbers a.now b.now }
@@ -14,25 +21,23 @@ fn same_numbers(a: &[u32], b: &[u32]) -> bool
 }
 
 impl Mark for ListMark {
-    ghost numbers = { list_numbers };
+    ghost numbers = { λ m. m.numbers.items };
 
     fn same(&self, other: &ListMark) -> bool {
-        same_numbers(&self.numbers[0..self.count], &other.numbers[0..other.count])
+        same_numbers(self.numbers.as_slice(), other.numbers.as_slice())
     }
 }
 
 impl ListMark {
     // The mark of numbers with commas between them.
-    pub fn of_word(word: &str) -> Result<ListMark, BadLine> {
-        let mut numbers = [0u32; 8];
-        let mut count = 0usize;
+    pub fn of_word(heap: Global, word: &str) -> Result<ListMark, BadLine> {
+        let mut numbers = Vec::new(heap);
         for part in word.split(',') {
-            if count >= 8 {
+            if numbers.len() >= MOST_NUMBERS {
                 return Err(BadLine::NotMark);
             }
-            numbers[count] = words::number_u32(part)?;
-            count += 1;
+            numbers.push(words::number(part)?)?;
         }
-        Ok(ListMark { numbers, count })
+        Ok(ListMark { numbers })
     }
 }

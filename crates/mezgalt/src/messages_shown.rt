@@ -1,13 +1,20 @@
 // Messages told in words, for people and for scripts.
+use crate::stops::Stop;
+use crate::words;
 use address::{Address, Title};
-use message::{Form, Parts, ReadFault, Segmentation};
+use message::{Form, Parts, Segmentation};
 
 fn yes_no(b: bool) -> &'static str {
     if b { "yes" } else { "no" }
 }
 
+// What messages are brought by: the subsystem, or the title.
+pub fn way(on_subsystem: bool) -> &'static str {
+    if on_subsystem { "subsystem" } else { "title" }
+}
+
 // The type of a message with what stands before its pointers.
-fn tell_form(rt: &HostRuntime, form: Form) -> anyhow::Result<()> {
+fn tell_form(rt: &HostRuntime, form: Form) -> Result<(), Stop> {
     let returns = yes_no(form.asks_return());
     match form {
         Form::Udt { class } => print!(rt; " class={} return={returns}", class % 16)?,
@@ -23,43 +30,31 @@ fn tell_form(rt: &HostRuntime, form: Form) -> anyhow::Result<()> {
 
 fn name_of(form: Form) -> &'static str {
     match form {
-        Form::Udt { class: _ } => "UDT",
-        Form::Udts { cause: _ } => "UDTS",
-        Form::Xudt { class: _, hop: _ } => "XUDT",
-        Form::Xudts { cause: _, hop: _ } => "XUDTS",
+        Form::Udt { .. } => "UDT",
+        Form::Udts { .. } => "UDTS",
+        Form::Xudt { .. } => "XUDT",
+        Form::Xudts { .. } => "XUDTS",
     }
 }
 
-fn digit_char(d: u8) -> char {
-    match d {
-        0..=9 => (d + b'0') as char,
-        10..=15 => (d - 10 + b'a') as char,
-        _ => '?',
-    }
-}
-
-pub fn print_digits(rt: &HostRuntime, digits: &[u8]) -> anyhow::Result<()> {
+pub fn print_digits(rt: &HostRuntime, digits: &[u8]) -> Result<(), Stop> {
     print!(rt; " digits=")?;
     for d in digits {
-        let c = digit_char(*d);
-        print!(rt; "{c}")?;
+        print!(rt; "{}", char::from_digit(*d as u32, 16).unwrap_or('?'))?;
     }
     Ok(())
 }
 
 // The digits of a title, or its octets where it does not tell how many digits they are.
-fn tell_digits(rt: &HostRuntime, title: Title, octets: &[u8]) -> anyhow::Result<()> {
+fn tell_digits(rt: &HostRuntime, title: Title, octets: &[u8]) -> Result<(), Stop> {
     match title.digits() {
-        Some(digits) => print_digits(rt, digits.as_slice()),
-        None => {
-            let text = hexadecimal::text_of(rt.alloc(), octets)?;
-            print!(rt; " octets={text}")?;
-            Ok(())
-        }
+        Some(digits) => print_digits(rt, digits.as_slice())?,
+        None => print!(rt; " octets={}", hexadecimal::text_of(rt.alloc(), octets)?)?,
     }
+    Ok(())
 }
 
-fn tell_title(rt: &HostRuntime, title: Title) -> anyhow::Result<()> {
+fn tell_title(rt: &HostRuntime, title: Title) -> Result<(), Stop> {
     match title {
         Title::Kind2 {
             translation_type,
@@ -88,17 +83,12 @@ fn tell_title(rt: &HostRuntime, title: Title) -> anyhow::Result<()> {
 }
 
 // An address on a line of its own: how it is routed, and what it holds.
-pub fn tell_address(rt: &HostRuntime, name: &str, a: Address) -> anyhow::Result<()> {
+pub fn tell_address(rt: &HostRuntime, name: &str, a: Address) -> Result<(), Stop> {
     if a.is_empty() {
         println!(rt; "  {name}: empty")?;
         return Ok(());
     }
-    let way = if a.on_subsystem() {
-        "subsystem"
-    } else {
-        "title"
-    };
-    print!(rt; "  {name}: on {way}")?;
+    print!(rt; "  {name}: on {}", way(a.on_subsystem()))?;
     if let Some(code) = a.code() {
         print!(rt; ", code {code}")?;
     }
@@ -108,55 +98,52 @@ pub fn tell_address(rt: &HostRuntime, name: &str, a: Address) -> anyhow::Result<
     if let Some(title) = a.title() {
         tell_title(rt, title)?;
     }
-    println!(rt; "")?;
+    println!(rt)?;
     Ok(())
 }
 
-fn tell_segmentation(rt: &HostRuntime, found: Option<Segmentation>) -> anyhow::Result<()> {
-    if let Some(s) = found {
-        let first = yes_no(s.first);
-        println!(rt;
-            "  segmentation: first={first} class={} remaining={} reference={}",
-            s.class, s.remaining, s.reference
+fn tell_segmentation(rt: &HostRuntime, found: Segmentation) -> Result<(), Stop> {
+    println!(rt;
+        "  segmentation: first={} class={} remaining={} reference={}",
+        yes_no(found.first),
+        found.class,
+        found.remaining,
+        found.reference
+    )?;
+    Ok(())
+}
+
+fn tell(rt: &HostRuntime, parts: Parts) -> Result<(), Stop> {
+    let heap = rt.alloc();
+    print!(rt;
+        "read: {} dpc={} opc={} sls={}",
+        name_of(parts.form),
+        parts.label.dpc,
+        parts.label.opc,
+        parts.label.sls
+    )?;
+    tell_form(rt, parts.form)?;
+    let called = hexadecimal::text_of(heap, parts.called.octets())?;
+    let calling = hexadecimal::text_of(heap, parts.calling.octets())?;
+    let data = hexadecimal::text_of(heap, parts.data)?;
+    print!(rt; " called={called} calling={calling} data={data}")?;
+    if parts.form.hop().is_some() {
+        print!(rt;
+            " options={}",
+            hexadecimal::text_of(heap, parts.options.octets())?
         )?;
     }
-    Ok(())
-}
-
-fn tell_parts(rt: &HostRuntime, p: Parts) -> anyhow::Result<()> {
-    let heap = rt.alloc();
-    let name = name_of(p.form);
-    print!(rt;
-        "read: {name} dpc={} opc={} sls={}",
-        p.label.dpc, p.label.opc, p.label.sls
-    )?;
-    tell_form(rt, p.form)?;
-    let called = hexadecimal::text_of(heap, p.called.octets())?;
-    let calling = hexadecimal::text_of(heap, p.calling.octets())?;
-    let data = hexadecimal::text_of(heap, p.data)?;
-    print!(rt; " called={called} calling={calling} data={data}")?;
-    if p.form.hop().is_some() {
-        let options = hexadecimal::text_of(heap, p.options.octets())?;
-        print!(rt; " options={options}")?;
+    println!(rt)?;
+    tell_address(rt, "called", parts.called)?;
+    tell_address(rt, "calling", parts.calling)?;
+    if let Some(found) = parts.options.segmentation() {
+        tell_segmentation(rt, found)?;
     }
-    println!(rt; "")?;
-    tell_address(rt, "called", p.called)?;
-    tell_address(rt, "calling", p.calling)?;
-    tell_segmentation(rt, p.options.segmentation())
-}
-
-fn tell_fault(rt: &HostRuntime, e: ReadFault) -> anyhow::Result<()> {
-    let number = e.fault.number();
-    let fault = e.fault;
-    let offset = e.offset;
-    println!(rt; "read: refused {number} at {offset}: {fault}")?;
     Ok(())
 }
 
 // What the octets of a line are, label included: a message, or a fault.
-pub fn tell(rt: &HostRuntime, octets: &[u8]) -> anyhow::Result<()> {
-    match message::read(octets) {
-        Ok(m) => tell_parts(rt, m.parts()),
-        Err(e) => tell_fault(rt, e),
-    }
+pub fn read(rt: &HostRuntime, rest: &str) -> Result<(), Stop> {
+    let octets = words::octets_behind(rt.alloc(), rest)?;
+    tell(rt, message::read(octets.as_slice())?.parts())
 }

@@ -1,37 +1,20 @@
 // A script: one command a line; what stands behind a `#` is a comment.
-use crate::lines_used::AnyLine;
+use crate::any_lines::AnyLine;
+use crate::stops::Stop;
 use crate::tables_used::Tables;
 use crate::words::BadLine;
-use crate::{lines_used, messages_shown, tables_used, words};
+use crate::{lines_used, messages_shown, slots_used, words};
 use std::alloc::Global;
 
 // What the program keeps from command to command.
 #[derive(Drop)]
 pub struct Desk {
-    heap: Global,
     number: u64,
     line: Option<AnyLine>,
     tables: Tables,
 }
 
-impl Desk {
-    pub fn new(heap: Global) -> Desk {
-        Desk {
-            heap,
-            number: 0,
-            line: None,
-            tables: Tables::new(heap),
-        }
-    }
-}
-
-fn tell_bad(rt: &HostRuntime, number: u64, bad: BadLine) -> anyhow::Result<()> {
-    let words = bad.words();
-    println!(rt; "error: line {number}: {words}")?;
-    Ok(())
-}
-
-fn help_tables(rt: &HostRuntime) -> anyhow::Result<()> {
+fn help_tables(rt: &HostRuntime) -> Result<(), Stop> {
     println!(rt;
         "  prefix kind=N tt=N np=N nai=N digits=D on=title|subsystem to=CODE[/N] [backup=CODE[/N]]   adds a rule for titles"
     )?;
@@ -47,7 +30,7 @@ fn help_tables(rt: &HostRuntime) -> anyhow::Result<()> {
     Ok(())
 }
 
-fn help(rt: &HostRuntime) -> anyhow::Result<()> {
+fn help(rt: &HostRuntime) -> Result<(), Stop> {
     println!(rt;
         "help: one command a line; what stands behind a # is a comment; - stands for no octets"
     )?;
@@ -74,54 +57,80 @@ fn help(rt: &HostRuntime) -> anyhow::Result<()> {
     Ok(())
 }
 
-fn read(rt: &HostRuntime, heap: Global, rest: &str) -> anyhow::Result<Result<(), BadLine>> {
-    match words::octets_behind(heap, rest) {
-        Ok(octets) => {
-            messages_shown::tell(rt, octets.as_slice())?;
-            Ok(Ok(()))
+impl Desk {
+    fn new(heap: Global) -> Desk {
+        Desk {
+            number: 0,
+            line: None,
+            tables: Tables::new(heap),
         }
-        Err(bad) => Ok(Err(bad)),
     }
-}
 
-// One more line of the script begins.
-pub fn begin(desk: &mut Desk) {
-    desk.number = desk.number.saturating_add(1);
+    // One more line of the script begins.
+    pub fn begin(&mut self) {
+        self.number = self.number.saturating_add(1);
+    }
+
+    // Ends a line: tells a bad line and a refusal, behind which the script goes on.
+    pub fn end(&self, rt: &HostRuntime, word: &str, done: Result<(), Stop>) -> Result<(), Stop> {
+        match done {
+            Ok(()) => {}
+            Err(Stop::Bad(bad)) => println!(rt; "error: line {}: {bad}", self.number)?,
+            Err(stop @ (Stop::Output(_) | Stop::Memory(_))) => return Err(stop),
+            Err(refusal) => println!(rt; "{word}: {refusal}")?,
+        }
+        Ok(())
+    }
+
+    // Carries out a command that needs no slots.
+    pub fn carry_out(&mut self, rt: &HostRuntime, word: &str, rest: &str) -> Result<(), Stop> {
+        match word {
+            "" => Ok(()),
+            "read" => messages_shown::read(rt, rest),
+            "line" => lines_used::open(rt, &mut self.line, rest),
+            "put" => lines_used::put(rt, &mut self.line, rest),
+            "take" => lines_used::take(rt, &mut self.line, rest),
+            "places" => lines_used::places(rt, &self.line, rest),
+            "prefix" => self.tables.prefix(rt, rest),
+            "plan" => self.tables.plan(rt, rest),
+            "code" => self.tables.code(rt, rest),
+            "subsystem" => self.tables.subsystem(rt, rest),
+            "map" => self.tables.map(rt, rest),
+            "translate" => self.tables.translate(rt, rest),
+            "piece" | "tick" | "copy" | "release" | "account" => Err(BadLine::NoSlots.into()),
+            "help" => help(rt),
+            _ => Err(BadLine::Unknown.into()),
+        }
+    }
+
+    // Plays lines for which no slots are open.
+    pub fn play(&mut self, rt: &HostRuntime, lines: &[&str]) -> Result<(), Stop> {
+        for line in lines {
+            self.begin();
+            let (word, rest) = words::command(line);
+            let done = self.carry_out(rt, word, rest);
+            self.end(rt, word, done)?;
+        }
+        Ok(())
+    }
 }
 
 // Whether a line opens slots.
-pub fn opens_slots(line: &str) -> bool {
-    let (word, _) = words::parted(words::before_comment(line));
-    word == "slots"
+fn opens_slots(line: &str) -> bool {
+    words::command(line).0 == "slots"
 }
 
-// Tells what was wrong with a line that was no command.
-pub fn finish(rt: &HostRuntime, desk: &Desk, done: Result<(), BadLine>) -> anyhow::Result<()> {
-    match done {
-        Ok(()) => Ok(()),
-        Err(bad) => tell_bad(rt, desk.number, bad),
-    }
-}
-
-// Carries out one line of a script that needs no slots.
-pub fn play(rt: &HostRuntime, desk: &mut Desk, line: &str) -> anyhow::Result<()> {
-    let (word, rest) = words::parted(words::before_comment(line));
-    let done = match word {
-        "" => Ok(()),
-        "read" => read(rt, desk.heap, rest)?,
-        "line" | "put" | "take" | "places" => lines_used::play(rt, &mut desk.line, word, rest)?,
-        "prefix" | "plan" | "code" | "subsystem" | "map" | "translate" => tables_used::play(
-            rt,
-            &mut desk.tables,
-            word,
-            rest,
-        )?,
-        "piece" | "tick" | "copy" | "release" | "account" => Err(BadLine::NoSlots),
-        "help" => {
-            help(rt)?;
-            Ok(())
+// Plays a script: in one piece the lines before the first that opens slots, and in one each
+// such line with those behind it, to which its slots are open.
+pub fn play(rt: &HostRuntime, lines: &[&str]) -> Result<(), Stop> {
+    let mut desk = Desk::new(rt.alloc());
+    for group in lines.chunk_by(|_, next| !opens_slots(next)) {
+        match group {
+            [line, behind @ ..] if opens_slots(line) => slots_used::play(
+                rt, &mut desk, line, behind,
+            )?,
+            _ => desk.play(rt, group)?,
         }
-        _ => Err(BadLine::Unknown),
-    };
-    finish(rt, desk, done)
+    }
+    Ok(())
 }

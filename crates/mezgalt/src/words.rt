@@ -1,58 +1,58 @@
 // The words of a script's line, and why a line is no command.
 use hexadecimal::NoOctets;
-use std::alloc::Global;
+use std::alloc::{AllocError, Global};
+use std::str::FromStr;
+use thiserror::Error;
 
-#[derive(Clone, Copy)]
+#[derive(Debug, Drop, Error)]
 pub enum BadLine {
+    #[error("unknown command; `help` lists the commands")]
     Unknown,
+    #[error("octets in hexadecimal are wanted behind the command")]
     NeedsHex,
+    #[error("the octets are not hexadecimal, two digits each, or `-` for none")]
     NotHex,
+    #[error("a number is wanted behind the command")]
     NeedsNumber,
+    #[error("this is not a number, or too large a one")]
     NotNumber,
+    #[error("there are more words than the command takes")]
     TooManyWords,
+    #[error("no line is open; `line cell OCTETS` or `line packed OCTETS` opens one")]
     NoLine,
+    #[error("a line is `cell` or `packed`")]
     LineKind,
+    #[error("no slots are open; `slots code=N ticks=N records=N store=N` opens some")]
     NoSlots,
+    #[error("there is no receipt for this slot")]
     NoReceipt,
+    #[error("a mark is up to eight numbers with commas between them")]
     NotMark,
+    #[error("this is neither `yes` nor `no`")]
     NotYesNo,
+    #[error("digits are up to 16 of 0 to 9 and a to f, or `-` for none")]
     NotDigits,
+    #[error("routing is on `title` or on `subsystem`")]
     NotRouting,
+    #[error("a code is `up`, `down` or `sccp-down`, a subsystem `up`, `failed` or `unequipped`")]
     NotState,
+    #[error("a subsystem is named by its code, a stroke and its number, as 5/8")]
     NotPlace,
+    #[error("a point code is 0 to 16,383")]
     NotCode,
+    #[error("a value that the command needs is missing")]
     MissingValue,
+    #[error("there is a word that the command does not take")]
     BadWord,
-    NoMemory,
+    #[error("there is no memory for it")]
+    NoMemory(#[from(alloc)] AllocError),
 }
 
-impl BadLine {
-    pub fn words(self) -> &'static str {
-        match self {
-            BadLine::Unknown => "unknown command; `help` lists the commands",
-            BadLine::NeedsHex => "octets in hexadecimal are wanted behind the command",
-            BadLine::NotHex => "the octets are not hexadecimal, two digits each, or `-` for none",
-            BadLine::NeedsNumber => "a number is wanted behind the command",
-            BadLine::NotNumber => "this is not a number, or too large a one",
-            BadLine::TooManyWords => "there are more words than the command takes",
-            BadLine::NoLine =>
-                "no line is open; `line cell OCTETS` or `line packed OCTETS` opens one",
-            BadLine::LineKind => "a line is `cell` or `packed`",
-            BadLine::NoSlots =>
-                "no slots are open; `slots code=N ticks=N records=N store=N` opens some",
-            BadLine::NoReceipt => "there is no receipt for this slot",
-            BadLine::NotMark => "a mark is up to eight numbers with commas between them",
-            BadLine::NotYesNo => "this is neither `yes` nor `no`",
-            BadLine::NotDigits => "digits are up to 16 of 0 to 9 and a to f, or `-` for none",
-            BadLine::NotRouting => "routing is on `title` or on `subsystem`",
-            BadLine::NotState =>
-                "a code is `up`, `down` or `sccp-down`, a subsystem `up`, `failed` or `unequipped`",
-            BadLine::NotPlace =>
-                "a subsystem is named by its code, a stroke and its number, as 5/8",
-            BadLine::NotCode => "a point code is 0 to 16,383",
-            BadLine::MissingValue => "a value that the command needs is missing",
-            BadLine::BadWord => "there is a word that the command does not take",
-            BadLine::NoMemory => "there is no memory for it",
+impl From<NoOctets> for BadLine {
+    fn from(why: NoOctets) -> BadLine {
+        match why {
+            NoOctets::NotHexadecimal => BadLine::NotHex,
+            NoOctets::NoMemory => BadLine::NoMemory(AllocError),
         }
     }
 }
@@ -60,17 +60,12 @@ impl BadLine {
 // The first word of a text, and what stands behind it.
 pub fn parted(text: &str) -> (&str, &str) {
     let text = text.trim();
-    match text.split_once(' ') {
-        Some((word, rest)) => (word, rest),
-        None => (text, ""),
-    }
+    text.split_once(' ').unwrap_or((text, ""))
 }
 
-pub fn before_comment(line: &str) -> &str {
-    match line.split_once('#') {
-        Some((command, _)) => command,
-        None => line,
-    }
+// The command of a line, and what stands behind it; what stands behind a `#` is a comment.
+pub fn command(line: &str) -> (&str, &str) {
+    parted(line.split_once('#').map_or(line, |(before, _)| before))
 }
 
 // The one word behind a command.
@@ -84,25 +79,28 @@ pub fn only_word(rest: &str, missing: BadLine) -> Result<&str, BadLine> {
 }
 
 pub fn no_words(rest: &str) -> Result<(), BadLine> {
-    match rest.split_whitespace().next() {
-        None => Ok(()),
-        Some(_) => Err(BadLine::TooManyWords),
+    if rest.trim().is_empty() {
+        Ok(())
+    } else {
+        Err(BadLine::TooManyWords)
     }
 }
 
-pub fn number(word: &str) -> Result<usize, BadLine> {
-    match word.parse::<usize>() {
-        Ok(n) => Ok(n),
-        Err(_) => Err(BadLine::NotNumber),
-    }
+// The number that a word is, of whatever type is asked for.
+pub fn number<N: FromStr>(word: &str) -> Result<N, BadLine>
+where
+    N::Err: Drop,
+{
+    word.parse().map_err(|_| BadLine::NotNumber)
+}
+
+// The one number behind a command.
+pub fn number_behind(rest: &str) -> Result<usize, BadLine> {
+    number(only_word(rest, BadLine::NeedsNumber)?)
 }
 
 pub fn octets(heap: Global, word: &str) -> Result<Vec<u8>, BadLine> {
-    match hexadecimal::octets_of(heap, word) {
-        Ok(octets) => Ok(octets),
-        Err(NoOctets::NotHexadecimal) => Err(BadLine::NotHex),
-        Err(NoOctets::NoMemory) => Err(BadLine::NoMemory),
-    }
+    Ok(hexadecimal::octets_of(heap, word)?)
 }
 
 // The octets in the one word behind a command.
@@ -110,27 +108,9 @@ pub fn octets_behind(heap: Global, rest: &str) -> Result<Vec<u8>, BadLine> {
     octets(heap, only_word(rest, BadLine::NeedsHex)?)
 }
 
-pub fn number_u32(word: &str) -> Result<u32, BadLine> {
-    match word.parse::<u32>() {
-        Ok(n) => Ok(n),
-        Err(_) => Err(BadLine::NotNumber),
-    }
-}
-
-// A number below 65,536.
-pub fn small(word: &str) -> Result<u16, BadLine> {
-    match word.parse::<u16>() {
-        Ok(n) => Ok(n),
-        Err(_) => Err(BadLine::NotNumber),
-    }
-}
-
-// A number below 256.
-pub fn octet(word: &str) -> Result<u8, BadLine> {
-    match word.parse::<u8>() {
-        Ok(n) => Ok(n),
-        Err(_) => Err(BadLine::NotNumber),
-    }
+// So many octets, all zero.
+pub fn zeros(heap: Global, n: usize) -> Result<Vec<u8>, BadLine> {
+    Ok(vec![in heap; 0u8; n]?)
 }
 
 pub fn yes_or_no(word: &str) -> Result<bool, BadLine> {
@@ -141,46 +121,18 @@ pub fn yes_or_no(word: &str) -> Result<bool, BadLine> {
     }
 }
 
-// The number behind a command, or 1 where there is none.
-pub fn number_or_one(rest: &str) -> Result<usize, BadLine> {
-    match rest.split_whitespace().next() {
-        None => Ok(1),
-        Some(_) => number(only_word(rest, BadLine::NeedsNumber)?),
-    }
-}
-
 // What stands behind `key=` in one of the words.
 pub fn value<'a>(rest: &'a str, key: &str) -> Result<&'a str, BadLine> {
-    for word in rest.split_whitespace() {
-        if let Some((name, told)) = word.split_once('=') {
-            if name == key {
-                return Ok(told);
-            }
-        }
-    }
-    Err(BadLine::MissingValue)
-}
-
-fn is_among(name: &str, keys: &[&str]) -> bool {
-    for key in keys {
-        if *key == name {
-            return true;
-        }
-    }
-    false
+    rest.split_whitespace()
+        .find_map(|word| word.strip_prefix(key)?.strip_prefix('='))
+        .ok_or(BadLine::MissingValue)
 }
 
 // Each word is `key=..` with one of the keys.
 pub fn only_keys(rest: &str, keys: &[&str]) -> Result<(), BadLine> {
-    for word in rest.split_whitespace() {
-        match word.split_once('=') {
-            Some((name, _)) => {
-                if !is_among(name, keys) {
-                    return Err(BadLine::BadWord);
-                }
-            }
-            None => return Err(BadLine::BadWord),
-        }
-    }
-    Ok(())
+    let fit = rest.split_whitespace().all(|word| {
+        word.split_once('=')
+            .is_some_and(|(name, _)| keys.contains(&name))
+    });
+    if fit { Ok(()) } else { Err(BadLine::BadWord) }
 }
