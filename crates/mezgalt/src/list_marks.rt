@@ -1,4 +1,5 @@
-ghost use Rattle.std.specs.Prelude.{◌≡◌};
+// The marks of a script.
+ghost use Rattle.std.specs.Prelude.{◌≡◌, ◌≤◌, vec_len};
 ghost use Rattle.timed_table.specs.Marks.{same_numbers};
 
 use crate::words;
@@ -12,6 +13,7 @@ const MOST_NUMBERS: usize = 8;
 #[derive(Drop)]
 pub struct ListMark {
     numbers: Vec<u32>,
+    ghost few: { vec_len numbers ≤ 8 },
 }
 
 fn same_numbers(a: &[u32], b: &[u32]) -> bool

@@ -6,55 +6,34 @@ use crate::words::BadLine;
 use crate::{lines_used, messages_shown, slots_used, words};
 use std::alloc::Global;
 
+const HELP: &str = "\
+help: one command a line; what stands behind a # is a comment; - stands for no octets
+  read HEX            tells what a line message is, its label included, or why it is refused
+  line cell OCTETS    opens a line of cells in an area of so many octets
+  line packed OCTETS  opens a packed line
+  put HEX             puts a message on the line
+  take                takes the oldest message from the line
+  places              tells how many places the line has left
+  slots code=N ticks=N records=N store=N   opens slots, to which the commands below belong
+  piece mark=N,N,.. first=yes|no remaining=N data=HEX   gives a piece
+  tick [N]            one tick, or so many
+  copy SLOT [OCTETS]  copies the unit of a slot, into a buffer of so many octets
+  release SLOT        frees a slot
+  account             what was opened, handed up, broken, lapsed, and is open
+  prefix kind=N tt=N np=N nai=N digits=D on=title|subsystem to=CODE[/N] [backup=CODE[/N]]   adds a rule for titles
+  plan kind=N tt=N np=N nai=N   translates by the bench plan, until the next prefix
+  code N up|down|sccp-down      what a code is
+  subsystem CODE/N up|failed|unequipped   what a subsystem is
+  map HEX             states of codes, two bits each, until the next code or subsystem
+  translate HEX own=CODE   translates an address at the station of a code
+  help                lists the commands";
+
 // What the program keeps from command to command.
 #[derive(Drop)]
 pub struct Desk {
     number: u64,
     line: Option<AnyLine>,
     tables: Tables,
-}
-
-fn help_tables(rt: &HostRuntime) -> Result<(), Stop> {
-    println!(rt;
-        "  prefix kind=N tt=N np=N nai=N digits=D on=title|subsystem to=CODE[/N] [backup=CODE[/N]]   adds a rule for titles"
-    )?;
-    println!(rt;
-        "  plan kind=N tt=N np=N nai=N   translates by the bench plan, until the next prefix"
-    )?;
-    println!(rt; "  code N up|down|sccp-down      what a code is")?;
-    println!(rt; "  subsystem CODE/N up|failed|unequipped   what a subsystem is")?;
-    println!(rt;
-        "  map HEX             states of codes, two bits each, until the next code or subsystem"
-    )?;
-    println!(rt; "  translate HEX own=CODE   translates an address at the station of a code")?;
-    Ok(())
-}
-
-fn help(rt: &HostRuntime) -> Result<(), Stop> {
-    println!(rt;
-        "help: one command a line; what stands behind a # is a comment; - stands for no octets"
-    )?;
-    println!(rt;
-        "  read HEX            tells what a line message is, its label included, or why it is refused"
-    )?;
-    println!(rt; "  line cell OCTETS    opens a line of cells in an area of so many octets")?;
-    println!(rt; "  line packed OCTETS  opens a packed line")?;
-    println!(rt; "  put HEX             puts a message on the line")?;
-    println!(rt; "  take                takes the oldest message from the line")?;
-    println!(rt; "  places              tells how many places the line has left")?;
-    println!(rt;
-        "  slots code=N ticks=N records=N store=N   opens slots, to which the commands below belong"
-    )?;
-    println!(rt; "  piece mark=N,N,.. first=yes|no remaining=N data=HEX   gives a piece")?;
-    println!(rt; "  tick [N]            one tick, or so many")?;
-    println!(rt;
-        "  copy SLOT [OCTETS]  copies the unit of a slot, into a buffer of so many octets"
-    )?;
-    println!(rt; "  release SLOT        frees a slot")?;
-    println!(rt; "  account             what was opened, handed up, broken, lapsed, and is open")?;
-    help_tables(rt)?;
-    println!(rt; "  help                lists the commands")?;
-    Ok(())
 }
 
 impl Desk {
@@ -98,7 +77,7 @@ impl Desk {
             "map" => self.tables.map(rt, rest),
             "translate" => self.tables.translate(rt, rest),
             "piece" | "tick" | "copy" | "release" | "account" => Err(BadLine::NoSlots.into()),
-            "help" => help(rt),
+            "help" => Ok(println!(rt; "{HELP}")?),
             _ => Err(BadLine::Unknown.into()),
         }
     }

@@ -14,7 +14,7 @@ const MOST_SLOTS: usize = 16;
 const STRETCH: usize = 3_952;
 
 // What the answers of a use add up to.
-#[derive(Clone, Copy, Default)]
+#[derive(Default, Drop)]
 struct Account {
     opened: u64,
     handed_up: u64,

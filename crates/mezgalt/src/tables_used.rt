@@ -162,29 +162,15 @@ struct Tried<'a, V> {
 }
 
 impl<V: Availability> Tried<'_, V> {
-    // One trial, on a line for people.
-    fn tell_trial(
-        &self,
-        rt: &HostRuntime,
-        name: &str,
-        routing: Routing,
-        d: Destination,
-        given: Option<u8>,
-    ) -> Result<(), Stop> {
-        let code = d.code.number();
-        match d.route(self.availability, self.own, routing, given) {
-            Ok(_) => println!(rt; "  {name} {code}: can be reached")?,
-            Err(cause) => println!(rt; "  {name} {code}: cause {}: {cause}", cause.number())?,
-        }
-        Ok(())
-    }
-
-    // The trials of a rule for an address.
+    // The trials of a rule for an address, each on a line for people.
     fn tell_trials(&self, rt: &HostRuntime, rule: Rule, a: Address) -> Result<(), Stop> {
-        let given = a.subsystem();
-        self.tell_trial(rt, "primary", rule.routing, rule.primary, given)?;
-        if let Some(backup) = rule.backup {
-            self.tell_trial(rt, "backup", rule.routing, backup, given)?;
+        for (name, tried) in [("primary", Some(rule.primary)), ("backup", rule.backup)] {
+            let Some(d) = tried else { continue };
+            print!(rt; "  {name} {}: ", d.code.number())?;
+            match d.route(self.availability, self.own, rule.routing, a.subsystem()) {
+                Ok(_) => println!(rt; "can be reached")?,
+                Err(cause) => println!(rt; "cause {}: {cause}", cause.number())?,
+            }
         }
         Ok(())
     }
