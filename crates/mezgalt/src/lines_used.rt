@@ -4,27 +4,21 @@ use crate::stops::Stop;
 use crate::words;
 use crate::words::BadLine;
 use cell_line::CellLine;
-use line::{Line, LineRefusal};
+use line::{InArea, Line};
 use packed_line::PackedLine;
 
 // A buffer has room for the longest message.
 const BUFFER: usize = 272;
 
-// Opens a line of a kind, made by `new` from an area, in the place of the one that was open.
-fn open_kind<L, F>(
+// Opens a line of a kind in the place of the one that was open.
+fn open_kind<L: InArea + Into<AnyLine>>(
     rt: &HostRuntime,
     held: &mut Option<AnyLine>,
     name: &str,
     size: &str,
-    new: F,
-) -> Result<(), Stop>
-where
-    L: Into<AnyLine>,
-    F: FnOnce(Vec<u8>) -> Result<L, (LineRefusal, Vec<u8>)>,
-    requires { F.IsAlwaysCallable new }
-{
+) -> Result<(), Stop> {
     let octets = words::number_behind(size)?;
-    let line = new(words::zeros(rt.alloc(), octets)?).map_err(|(why, _)| why)?;
+    let line = L::new(words::zeros(rt.alloc(), octets)?).map_err(|(why, _)| why)?;
     let line = line.into();
     println!(rt; "line: {name} of {octets} octets, {} places", line.places())?;
     *held = Some(line);
@@ -34,8 +28,8 @@ where
 pub fn open(rt: &HostRuntime, held: &mut Option<AnyLine>, rest: &str) -> Result<(), Stop> {
     let (kind, size) = words::parted(rest);
     match kind {
-        "cell" => open_kind(rt, held, "cell line", size, CellLine::new),
-        "packed" => open_kind(rt, held, "packed line", size, PackedLine::new),
+        "cell" => open_kind::<CellLine>(rt, held, "cell line", size),
+        "packed" => open_kind::<PackedLine>(rt, held, "packed line", size),
         _ => Err(BadLine::LineKind.into()),
     }
 }
