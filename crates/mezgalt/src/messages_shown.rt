@@ -48,7 +48,7 @@ pub fn print_digits(rt: &HostRuntime, digits: &[u8]) -> Result<(), Stop> {
 // The digits of a title, or its octets where it does not tell how many digits they are.
 fn tell_digits(rt: &HostRuntime, title: Title, octets: &[u8]) -> Result<(), Stop> {
     match title.digits() {
-        Some(digits) => print_digits(rt, digits.as_slice())?,
+        Some(digits) => print_digits(rt, digits.octets())?,
         None => print!(rt; " octets={}", hexadecimal::text_of(rt.alloc(), octets)?)?,
     }
     Ok(())

@@ -145,7 +145,7 @@ fn print_found(rt: &HostRuntime, a: Address, rule: Option<Rule>) -> Result<(), S
         None => print!(rt; "translate: selector=-")?,
     }
     match a.title().and_then(|title| title.digits()) {
-        Some(found) => messages_shown::print_digits(rt, found.as_slice())?,
+        Some(found) => messages_shown::print_digits(rt, found.octets())?,
         None => print!(rt; " digits=-")?,
     }
     match rule {
