@@ -5,7 +5,7 @@ use crate::scripts::Desk;
 use crate::stops::Stop;
 use crate::words;
 use crate::words::BadLine;
-use kept_receipts::{KeptAnswer, KeptReceipts};
+use kept_receipts::{KeptAnswer, KeptReceipts, Whole};
 use slots::{Entry, Load, Settings};
 use std::alloc::Global;
 
@@ -145,9 +145,9 @@ fn tell_answer(rt: &HostRuntime, answer: KeptAnswer) -> Result<(), Stop> {
         KeptAnswer::Stray => println!(rt; "piece: stray")?,
         KeptAnswer::Broken { slot } => println!(rt; "piece: broken slot {slot}")?,
         KeptAnswer::Held { slot } => println!(rt; "piece: held slot {slot}")?,
-        KeptAnswer::HandedUp { slot, length } => println!(rt;
-            "piece: handed up from pieces, slot {slot}, {length} octets"
-        )?,
+        KeptAnswer::HandedUp {
+            receipt: Whole { slot, length },
+        } => println!(rt; "piece: handed up from pieces, slot {slot}, {length} octets")?,
     }
     Ok(())
 }
