@@ -4,11 +4,9 @@ use crate::stops::Stop;
 use crate::words;
 use crate::words::BadLine;
 use cell_line::CellLine;
+use line::queue::MESSAGE_MOST;
 use line::{InArea, Line};
 use packed_line::PackedLine;
-
-// A buffer has room for the longest message.
-const BUFFER: usize = 272;
 
 // Opens a line of a kind in the place of the one that was open.
 fn open_kind<L: InArea + Into<AnyLine>>(
@@ -50,7 +48,7 @@ pub fn put(rt: &HostRuntime, held: &mut Option<AnyLine>, rest: &str) -> Result<(
 pub fn take(rt: &HostRuntime, held: &mut Option<AnyLine>, rest: &str) -> Result<(), Stop> {
     words::no_words(rest)?;
     let line = held.as_mut().ok_or(BadLine::NoLine)?;
-    let mut buffer = [0u8; BUFFER];
+    let mut buffer = [0u8; MESSAGE_MOST];
     let n = line.take(&mut buffer)?;
     let text = hexadecimal::text_of(rt.alloc(), &buffer[..n])?;
     println!(rt; "take: {text}")?;
