@@ -16,6 +16,7 @@ pub struct ListMark {
     ghost few: { vec_len numbers ≤ 8 },
 }
 
+// Stays: written into `same`, where the lists are those of two vectors, its proof does not close.
 fn same_numbers(a: &[u32], b: &[u32]) -> bool
     ensures { result ≡ same_numbers a.now b.now }
 {

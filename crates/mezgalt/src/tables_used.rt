@@ -43,6 +43,7 @@ fn destination(word: &str) -> Result<EntryDestination, BadLine> {
 }
 
 // Up to 16 digits, `-` for none.
+// Stays: an entry of a prefix list has its digits and their count side by side.
 fn digits(word: &str) -> Result<([u8; 16], u8), BadLine> {
     let text = if word == "-" { "" } else { word };
     let mut values = [0u8; 16];
@@ -55,6 +56,7 @@ fn digits(word: &str) -> Result<([u8; 16], u8), BadLine> {
     Ok((values, text.len() as u8))
 }
 
+// Stays: routing and the states are types of other crates, on which no FromStr can stand here.
 fn routing(word: &str) -> Result<Routing, BadLine> {
     match word {
         "title" => Ok(Routing::OnTitle),
