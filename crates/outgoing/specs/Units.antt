@@ -1,6 +1,5 @@
 -- The messages in which a unit goes out: one XUDT, or pieces, each an XUDT with segmentation.
 use Rattle.std.specs.Prelude.{◌≡◌, ℕ, zero, suc, ◌+◌, ◌*◌, ◌/◌, ◌%◌, ◌<◌, ◌≤◌, Bool, false, cond, ◌&&◌, List, [], ◌∷◌, length, take, drop, ◌==◌}
-use Rattle.address.specs.Code.{code_number}
 use Rattle.message.specs.declared.messages.Form.TheVariants.{Xudt}
 use Rattle.message.specs.Read.{Parsed}
 use Rattle.writing.specs.Write.{encode}
@@ -22,8 +21,8 @@ pub record Heading : Type 0 where
 abbrev pub heading_seen : Outgoing → Heading
 heading_seen o =
     record {
-      code = code_number o.dpc;
-      own = code_number o.opc;
+      code = o.dpc;
+      own = o.opc;
       called = o.called.octets.now;
       calling = o.calling.octets.now;
       class = class_number o.class;

@@ -1,4 +1,4 @@
-ghost use Rattle.std.specs.Prelude.{◌≡◌, ◌+◌, ◌%◌, ◌<◌};
+ghost use Rattle.std.specs.Prelude.{◌≡◌, ◌+◌, ◌%◌, ◌<◌, is_some, IfSome, nat_lt};
 
 const REFERENCES: u32 = 16_777_216;
 
@@ -10,6 +10,18 @@ pub struct UnitReference {
 }
 
 impl UnitReference {
+    // The reference of a number; none above 24 bits.
+    pub fn new(number: u32) -> Option<UnitReference>
+        ensures some { is_some result ≡ nat_lt number 16777216 }
+        ensures value { IfSome result (λ r. r.number ≡ number) }
+    {
+        if number < REFERENCES {
+            Some(UnitReference { number })
+        } else {
+            None
+        }
+    }
+
     // What stands before the first.
     pub fn zero() -> UnitReference
         ensures { result.number ≡ 0 }

@@ -5,10 +5,9 @@ ghost use Rattle.outgoing.specs.Puts.{put_outcome, put_by, Behind};
 ghost use Rattle.outgoing.specs.Units.{heading_seen, selection, class_octet, unit_message, one_message, segmentation_part, piece_message, piece_messages, Cut};
 
 use crate::classes::Class;
-use crate::labelling::label_to;
 use crate::putting::put_message;
 use crate::references::UnitReference;
-use address::{Address, PointCode};
+use address::{Address, Label};
 use line::Line;
 use message::{Form, Options, Parts};
 use translation::Cause;
@@ -17,8 +16,8 @@ use translation::Cause;
 // asks for return, and its sequence number.
 #[derive(Clone, Copy)]
 pub struct Outgoing<'h> {
-    pub dpc: PointCode,
-    pub opc: PointCode,
+    pub dpc: u16,
+    pub opc: u16,
     pub called: Address<'h>,
     pub calling: Address<'h>,
     pub class: Class,
@@ -39,12 +38,14 @@ const SEGMENTATION_LENGTH: u8 = 4;
 const END: u8 = 0;
 
 // The link selection: in sequence the low 4 bits of the sequence number, else 0.
-pub fn selection(class: Class, sequence: u32) -> u8
-    ensures { result ≡ selection (class_number class) sequence }
+// Stays: it takes a class by its number, since any number may be asked for.
+pub fn selection(class: u8, sequence: u32) -> u8
+    ensures { result ≡ selection class sequence }
 {
-    match class {
-        Class::Basic => 0,
-        Class::InSequence => (sequence % 16) as u8,
+    if class == Class::InSequence.number() {
+        (sequence % 16) as u8
+    } else {
+        0
     }
 }
 
@@ -85,7 +86,11 @@ fn parts_of<'p>(
     ensures { seen result ≡ unit_message (heading_seen unit.entry) (class_number class) returns contents.now options.now }
 {
     Parts {
-        label: label_to(unit.dpc, unit.opc, selection(class, unit.sequence)),
+        label: Label {
+            dpc: unit.dpc,
+            opc: unit.opc,
+            sls: selection(class.number(), unit.sequence),
+        },
         form: Form::Xudt {
             class: class_octet(class, returns),
             hop: MOST_HOPS,

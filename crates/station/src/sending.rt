@@ -48,8 +48,8 @@ fn put_single<'s, 'd, L: Line>(
 {
     put_one(line, unit, contents).map_err(|_| SendRefusal::TooFewPlaces)?;
     Ok(Sent::Message {
-        code: unit.dpc.number(),
-        sls: selection(unit.class, unit.sequence),
+        code: unit.dpc,
+        sls: selection(unit.class.number(), unit.sequence),
     })
 }
 
@@ -95,10 +95,10 @@ impl<'a> Station<'a> {
         put_pieces(line, unit, reference, each, (count - 1) as u8, contents);
         self.freeze(reference);
         Ok(Sent::Pieces {
-            code: unit.dpc.number(),
+            code: unit.dpc,
             count,
             reference: reference.number(),
-            sls: selection(Class::InSequence, unit.sequence),
+            sls: selection(Class::InSequence.number(), unit.sequence),
         })
     }
 
@@ -143,8 +143,8 @@ impl<'a> Station<'a> {
         let called = Address::new(called.octets());
         let calling = calling_for(own, called, request.calling);
         let unit = Outgoing {
-            dpc: code,
-            opc: own,
+            dpc: code.number(),
+            opc: own.number(),
             called,
             calling: or_given(&calling, request.calling),
             class,
