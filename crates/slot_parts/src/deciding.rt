@@ -1,7 +1,9 @@
-ghost use Rattle.std.specs.Prelude.{◌≡◌, ◌+◌, ◌≤◌};
+ghost use Rattle.std.specs.Prelude.{◌≡◌, ◌+◌, ◌≤◌, ◌==◌, not, ◌||◌, is_ok, IfOk, nat_lt};
 ghost use Rattle.slot_parts.specs.Deciding.{load_limit, first_load, load_follows, grown_load, decided, Within};
 
 use crate::load::Load;
+use crate::piece_size::PieceSize;
+use crate::refusals::PieceRefusal;
 
 // The most octets that a unit has: 16 pieces of 247. A slot's stretch of the store is as long.
 pub const UNIT_MOST: usize = 3952;
@@ -31,77 +33,81 @@ pub enum Step {
     Finish { slot: usize, load: Load },
 }
 
-// The limit of a unit whose first piece has `len` octets, with `remaining` to come. For `decide`, which knows the two to be in range.
-fn limit(remaining: u8, len: usize) -> u16
-    requires { (remaining ≤ 15) × (len ≤ 255) }
-    ensures { result ≡ load_limit remaining len }
-{
-    let whole = (remaining as usize + 1) * len;
-    if whole < UNIT_MOST {
-        whole as u16
-    } else {
-        UNIT_MOST as u16
+impl PieceSize {
+    // The size of a piece, or why it is declined.
+    pub fn new(remaining: u8, len: usize) -> Result<PieceSize, PieceRefusal>
+        ensures some { is_ok result ≡ not (nat_lt 15 remaining || (len == 0 || nat_lt 255 len)) }
+        ensures value { IfOk result (λ s. (s.remaining ≡ remaining) × (s.len ≡ len)) }
+    {
+        if remaining > REMAINING_MOST || len == 0 || len > DATA_MOST {
+            return Err(PieceRefusal::OutOfRange);
+        }
+        Ok(PieceSize { remaining, len })
+    }
+
+    // The limit of a unit whose first piece is of this size.
+    fn limit(self) -> u16
+        ensures { result ≡ load_limit self.remaining self.len }
+    {
+        let whole = (self.remaining as usize + 1) * self.len;
+        whole.min(UNIT_MOST) as u16
+    }
+
+    // What a slot keeps after a first piece.
+    fn first_load(self) -> Load
+        ensures { result ≡ first_load self.remaining self.len }
+    {
+        Load {
+            remaining: self.remaining,
+            limit: self.limit(),
+            len: self.len as u16,
+        }
+    }
+
+    // Whether a later piece follows on what its slot has: one less remains, and the sum is within the limit.
+    fn follows_on(self, load: Load) -> bool
+        ensures { result ≡ load_follows load self.remaining self.len }
+    {
+        self.remaining as usize + 1 == load.remaining as usize
+            && load.len as usize + self.len <= load.limit as usize
+    }
+
+    // What a slot keeps after a piece that follows on. For `decide`.
+    fn grown(self, load: Load) -> Load
+        requires { (load.len + self.len ≤ load.limit) × (load.limit ≤ 3952) }
+        ensures { result ≡ grown_load load self.remaining self.len }
+    {
+        Load {
+            remaining: self.remaining,
+            limit: load.limit,
+            len: (load.len as usize + self.len) as u16,
+        }
     }
 }
 
-// What a slot keeps after a first piece. For `decide`, too.
-fn first_load(remaining: u8, len: usize) -> Load
-    requires { (remaining ≤ 15) × (len ≤ 255) }
-    ensures { result ≡ first_load remaining len }
+// The state of the slot and the arriving piece decide together. For slots, which keep their loads within bounds.
+pub fn decide(found: Option<OpenSlot>, first: bool, size: PieceSize) -> Step
+    requires { Within found }
+    ensures { result ≡ decided found first size.remaining size.len }
 {
-    Load {
-        remaining,
-        limit: limit(remaining, len),
-        len: len as u16,
-    }
-}
-
-// Whether a later piece follows on what its slot has: one less remains, and the sum is within the limit. For `decide`.
-fn follows_on(load: Load, remaining: u8, len: usize) -> bool
-    requires { len ≤ 255 }
-    ensures { result ≡ load_follows load remaining len }
-{
-    remaining as usize + 1 == load.remaining as usize
-        && load.len as usize + len <= load.limit as usize
-}
-
-// What a slot keeps after a piece that follows on. For `decide`.
-fn grown(load: Load, remaining: u8, len: usize) -> Load
-    requires { (load.len + len ≤ load.limit) × (load.limit ≤ 3952) }
-    ensures { result ≡ grown_load load remaining len }
-{
-    Load {
-        remaining,
-        limit: load.limit,
-        len: (load.len as usize + len) as u16,
-    }
-}
-
-// Stays: one match on slot state and piece together is a form that was asked for.
-// The state of the slot and the arriving piece decide together. For slots, which know the piece to be in range and keep their loads within bounds.
-pub fn decide(found: Option<OpenSlot>, first: bool, remaining: u8, len: usize) -> Step
-    requires { (remaining ≤ 15) × ((len ≤ 255) × (Within found)) }
-    ensures { result ≡ decided found first remaining len }
-{
-    match (found, first, remaining) {
+    match (found, first, size.remaining) {
         (_, true, 0) => Step::Alone,
         (None, true, _) => Step::Open {
-            load: first_load(remaining, len),
+            load: size.first_load(),
         },
         (Some(OpenSlot { slot, .. }), true, _) => Step::Restart {
             slot,
-            load: first_load(remaining, len),
+            load: size.first_load(),
         },
         (None, false, _) => Step::Stray,
-        (Some(OpenSlot { slot, load }), false, _) if !follows_on(load, remaining, len) =>
-            Step::Break { slot },
+        (Some(OpenSlot { slot, load }), false, _) if !size.follows_on(load) => Step::Break { slot },
         (Some(OpenSlot { slot, load }), false, 0) => Step::Finish {
             slot,
-            load: grown(load, remaining, len),
+            load: size.grown(load),
         },
         (Some(OpenSlot { slot, load }), false, _) => Step::Hold {
             slot,
-            load: grown(load, remaining, len),
+            load: size.grown(load),
         },
     }
 }

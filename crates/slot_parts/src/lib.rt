@@ -5,6 +5,7 @@ pub mod deciding;
 pub mod layout;
 pub mod load;
 pub mod making;
+pub mod piece_size;
 pub mod refusals;
 pub mod settings;
 pub mod store;

@@ -15,9 +15,10 @@ ghost use Rattle.slots.specs.View.{view};
 use crate::alone::Slots;
 use crate::answers::PieceAnswer;
 use crate::receipt::Receipt;
-use slot_parts::deciding::{DATA_MOST, OpenSlot, REMAINING_MOST, Step, decide};
+use slot_parts::deciding::{OpenSlot, Step, decide};
 use slot_parts::layout::offset;
 use slot_parts::load::Load;
+use slot_parts::piece_size::PieceSize;
 use slot_parts::refusals::PieceRefusal;
 use timed_table::entry::Entry;
 use timed_table::mark::Mark;
@@ -123,11 +124,8 @@ impl<'a, K: Mark + Drop> Slots<'a, K> {
             (piece_octets K.numbers key first remaining contents.now self.old.table.entries.now self.old.store.octets.now) }
         ensures idle { OnErr result (self.new ≡ self.old) }
     {
-        let len = contents.len();
-        if remaining > REMAINING_MOST || len == 0 || len > DATA_MOST {
-            return Err(PieceRefusal::OutOfRange);
-        }
-        let step = decide(self.find_open(&key), first, remaining, len);
+        let size = PieceSize::new(remaining, contents.len())?;
+        let step = decide(self.find_open(&key), first, size);
         Ok(self.act(step, key, contents))
     }
 }
