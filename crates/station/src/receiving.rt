@@ -145,6 +145,7 @@ impl<'a> Station<'a> {
         if parts.label.dpc != self.settings().code() {
             return Err(ReceiveRefusal::NotOurs);
         }
+        // Stays: a closure for unwrap_or_else would borrow the line, and what waits on it would not be known afterwards.
         match self.follow(line, network, parts) {
             Ok(received) => Ok(received),
             Err(cause) => Ok(caused(line, &self.node(network), cause, parts)),

@@ -7,30 +7,24 @@ ghost use Rattle.station_laws.specs.Uses.{Use};
 ghost use Rattle.station_laws.specs.Laws.{Account, NoOpeningOutlives, OneSender, Kept, ArrivesEntire, SentInPieces, NeverShared, DeclinedAltersNothing, FromStationToStation};
 
 // Names the laws on what is received, so that each of them is checked: any number of slots and entries, any code, and any ticks (1 or more for the law of time).
-pub fn receiving_laws() -> u8
+pub fn receiving_laws()
     ensures sender { (u : Use) → OneSender u }
     ensures kept { (u : Use) → Kept u }
     ensures entire { (u : Use) → ArrivesEntire u }
     ensures account { (u : Use) → Account u }
     ensures timely { (u : Use) → 1 ≤ u.ticks → NoOpeningOutlives u }
     ensures idle { (u : Use) → DeclinedAltersNothing u }
-{
-    0
-}
+{}
 
 // Names the laws on what is sent.
-pub fn sending_laws() -> u8
+pub fn sending_laws()
     ensures cut { (u : Use) → SentInPieces u }
     ensures unshared { (u : Use) → NeverShared u }
     ensures between { (a b : Use) → FromStationToStation a b }
-{
-    0
-}
+{}
 
 // Figures: a message with hop 1 on title has cause 12, and on subsystem it is handed up.
-pub fn figures_hold() -> u8
+pub fn figures_hold()
     ensures title { HopOnTitle }
     ensures subsystem { HopOnSubsystem }
-{
-    0
-}
+{}
