@@ -12,6 +12,7 @@ const EVEN: u8 = 2;
 
 // A global title: what stands in an address in the place of a point code. Titles of kind 2
 // and 4 have digits, whose octets are borrowed from the address; others are only carried.
+// Stays: a kind is its number, 1 to 15, since titles of kinds without a meaning here are carried as they came.
 #[derive(Clone, Copy)]
 pub enum Title<'a> {
     Kind2 {

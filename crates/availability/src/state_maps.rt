@@ -14,6 +14,7 @@ pub struct StateMap<'a> {
 }
 
 // What two bits say.
+// Stays: states are of another crate, on which no From can stand here, and every number has a state.
 fn state_of(bits: u8) -> CodeState
     ensures { result ≡ state_numbered bits }
 {

@@ -8,6 +8,7 @@ use address::{Address, Label};
 // the class octet (protocol class in bits 1 to 4, bit 8 asks for return); UDTS and XUDTS,
 // which carry returned data, have the return cause in its place; XUDT and XUDTS have a hop
 // counter.
+// Stays: class and cause are octets as they came, since bits without a use are kept and any cause is carried.
 #[derive(Clone, Copy, PartialEq, Eq, Debug)]
 pub enum Form {
     Udt { class: u8 },

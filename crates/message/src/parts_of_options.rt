@@ -9,6 +9,7 @@ pub(crate) const END: u8 = 0x00;
 
 // Which piece of a unit a message carries: whether it is the first, the protocol class that
 // the user asked for, how many pieces come after it, and the reference that they share.
+// Stays: the class is a number, and a narrower type would ask more of whoever makes one.
 #[derive(Clone, Copy, PartialEq, Eq, Debug)]
 pub struct Segmentation {
     pub first: bool,

@@ -21,6 +21,7 @@ impl Body<'_> {
         ensures value { result ≡ option_span self.entry.octets.now start }
         ensures bound { IfOk result (SpanInside self.entry.octets.now) }
     {
+        // Stays: the offset is what is answered; told from what is left instead, the goals did not close.
         let mut offset = start;
         let mut segmented = false;
         loop {

@@ -4,6 +4,7 @@ use crate::words;
 use address::{Address, Title};
 use message::{Form, Parts, Segmentation};
 
+// Stays: a bool and the forms are types of others, on which no Display can stand here.
 fn yes_no(b: bool) -> &'static str {
     if b { "yes" } else { "no" }
 }

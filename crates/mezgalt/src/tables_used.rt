@@ -198,10 +198,10 @@ impl<V: Availability> Tried<'_, V> {
             Err(cause) => println!(rt; " cause={}: {cause}", cause.number())?,
         }
         messages_shown::tell_address(rt, "address", a)?;
-        match rule {
-            Some(rule) => self.tell_trials(rt, rule, a),
-            None => Ok(()),
+        if let Some(rule) = rule {
+            self.tell_trials(rt, rule, a)?;
         }
+        Ok(())
     }
 }
 

@@ -113,6 +113,7 @@ pub fn zeros(heap: Global, n: usize) -> Result<Vec<u8>, BadLine> {
     Ok(vec![in heap; 0u8; n]?)
 }
 
+// Stays: its words are a script's, and std's own parsing of a bool takes others.
 pub fn yes_or_no(word: &str) -> Result<bool, BadLine> {
     match word {
         "yes" => Ok(true),

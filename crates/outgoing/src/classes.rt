@@ -10,6 +10,7 @@ pub enum Class {
 
 impl Class {
     // The class of a number, where there is such a class.
+    // Stays: a test with one way to fail; a TryFrom would add an error that says no more.
     pub fn of_number(number: u8) -> Option<Class>
         ensures { class_found result ≡ class_of_number number }
     {

@@ -12,6 +12,7 @@ use line::Line;
 use message::{Form, Options, Parts};
 use translation::Cause;
 
+// Stays: what it carries is told beside it, since each piece goes out under the same heading with other contents.
 // What a unit goes out with: destination and origin, addresses as they are written, the class that was asked for, whether it
 // asks for return, and its sequence number.
 #[derive(Clone, Copy)]

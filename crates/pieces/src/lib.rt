@@ -34,6 +34,7 @@ fn count_of(called: usize, calling: usize, length: usize) -> usize
 }
 
 // Whether addresses and unit have lengths that can be sent.
+// Stays: three lengths side by side, as the functions for C pass them.
 fn in_range(called: usize, calling: usize, length: usize) -> bool
     ensures { result ≡ in_range called calling length }
 {

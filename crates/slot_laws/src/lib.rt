@@ -6,7 +6,7 @@ ghost use Rattle.slot_laws.specs.Figures.{AfterNineTicks, AfterTenTicks, FourMor
 ghost use Rattle.slot_laws.specs.Uses.{Use, OneSender, Kept, ArrivesEntire, Account, NoOpeningOutlives, DeclinedAltersNothing, StrangeReceipts, OneOpenEach};
 
 // Names the laws, so that each of them is checked. Any number of slots, any code, and any ticks (1 or more for the law of time).
-pub fn laws_hold() -> u8
+pub fn laws_hold()
     ensures sender { (u : Use) → OneSender u }
     ensures kept { (u : Use) → Kept u }
     ensures entire { (u : Use) → ArrivesEntire u }
@@ -15,17 +15,13 @@ pub fn laws_hold() -> u8
     ensures idle { (u : Use) → DeclinedAltersNothing u }
     ensures strange { (u : Use) → StrangeReceipts u }
     ensures single { (u : Use) → OneOpenEach u }
-{
-    0
-}
+{}
 
 // Figures: with T 10 the last piece after nine ticks is handed up, after ten it is stray; after a first piece of 4 octets with
 // remaining 1, 4 more are handed up and 5 more are broken.
-pub fn figures_hold() -> u8
+pub fn figures_hold()
     ensures nine { AfterNineTicks }
     ensures ten { AfterTenTicks }
     ensures four { FourMore }
     ensures five { FiveMore }
-{
-    0
-}
+{}

@@ -65,6 +65,7 @@ impl<'a, K: Mark + Drop> Slots<'a, K> {
     }
 
     // Does what was decided.
+    // Stays: a step is a value that the definitions name, which a closure in its place would hide.
     fn act<'d>(&mut self, step: Step, key: K, contents: &'d [u8]) -> PieceAnswer<'d>
         requires { Fit step (length contents.now) (length self.old.table.entries.now) }
         ensures value { answered result ≡ answer_of self.old.settings.code step (last_from is_free 0 None self.old.table.entries.now) self.old.table.entries.now contents.now }

@@ -122,10 +122,10 @@ pub fn release(
     slots: &mut KeptReceipts<'_, Reference>,
     place: usize,
 ) -> anyhow::Result<()> {
-    match slots.release(place) {
-        Some(_slot) => println!(rt; "released")?,
-        None => return Err(anyhow!("no such receipt")),
-    }
+    slots
+        .release(place)
+        .ok_or_else(|| anyhow!("no such receipt"))?;
+    println!(rt; "released")?;
     Ok(())
 }
 

@@ -184,6 +184,7 @@ impl<'a> Station<'a> {
     }
 
     // Sends a unit: to a subsystem here, or out to another code, in one message or in pieces.
+    // Stays: line and network are given side by side, since the one is written and the other only asked.
     pub fn send<'d, L: Line, N: Network>(
         &mut self,
         line: &mut L,

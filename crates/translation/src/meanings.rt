@@ -19,6 +19,7 @@ pub trait Translator {
     fn knows(&self, selector: Selector) -> bool
         ensures { result ≡ known self.now selector };
 
+    // Stays: selector and digits are told apart, since a selector is asked for by itself too.
     fn rule(&self, selector: Selector, digits: &[u8]) -> Option<Rule>
         ensures { rule_found result ≡ fit self.now selector digits.now };
 }

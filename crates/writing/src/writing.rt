@@ -75,6 +75,7 @@ impl Slices<'_> {
 }
 
 // The octets between the label and the called address.
+// Stays: two numbers of a form, each told as the format tells it; one function for both would only move them to its calls.
 fn head_size(form: Form) -> usize
     ensures { result ≡ head_size form }
 {
