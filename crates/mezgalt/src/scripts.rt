@@ -82,15 +82,29 @@ impl Desk {
         }
     }
 
-    // Plays lines for which no slots are open.
-    pub fn play(&mut self, rt: &HostRuntime, lines: &[&str]) -> Result<(), Stop> {
+    // Plays lines, each by a way to carry out commands.
+    pub fn play<F>(
+        &mut self,
+        rt: &HostRuntime,
+        lines: &[&str],
+        mut carry_out: F,
+    ) -> Result<(), Stop>
+    where
+        F: FnMut(&mut Desk, &str, &str) -> Result<(), Stop>,
+        requires { F.IsAlwaysCallable carry_out }
+    {
         for line in lines {
             self.begin();
             let (word, rest) = words::command(line);
-            let done = self.carry_out(rt, word, rest);
+            let done = carry_out(self, word, rest);
             self.end(rt, word, done)?;
         }
         Ok(())
+    }
+
+    // Plays lines for which no slots are open.
+    pub fn play_alone(&mut self, rt: &HostRuntime, lines: &[&str]) -> Result<(), Stop> {
+        self.play(rt, lines, |desk, word, rest| desk.carry_out(rt, word, rest))
     }
 }
 
@@ -108,7 +122,7 @@ pub fn play(rt: &HostRuntime, lines: &[&str]) -> Result<(), Stop> {
             [line, behind @ ..] if opens_slots(line) => slots_used::play(
                 rt, &mut desk, line, behind,
             )?,
-            _ => desk.play(rt, group)?,
+            _ => desk.play_alone(rt, group)?,
         }
     }
     Ok(())

@@ -238,20 +238,14 @@ impl Use<'_> {
 
     // Plays lines while the slots are open.
     fn play(&mut self, rt: &HostRuntime, desk: &mut Desk, lines: &[&str]) -> Result<(), Stop> {
-        for line in lines {
-            desk.begin();
-            let (word, rest) = words::command(line);
-            let done = match word {
-                "piece" => self.piece(rt, rest),
-                "tick" => self.tick(rt, rest),
-                "copy" => self.copy(rt, rest),
-                "release" => self.release(rt, rest),
-                "account" => self.tell_account(rt, rest),
-                _ => desk.carry_out(rt, word, rest),
-            };
-            desk.end(rt, word, done)?;
-        }
-        Ok(())
+        desk.play(rt, lines, |desk, word, rest| match word {
+            "piece" => self.piece(rt, rest),
+            "tick" => self.tick(rt, rest),
+            "copy" => self.copy(rt, rest),
+            "release" => self.release(rt, rest),
+            "account" => self.tell_account(rt, rest),
+            _ => desk.carry_out(rt, word, rest),
+        })
     }
 }
 
@@ -263,7 +257,7 @@ pub fn play(rt: &HostRuntime, desk: &mut Desk, line: &str, behind: &[&str]) -> R
         Ok(wanted) => wanted.play(rt, desk, behind),
         Err(stop) => {
             desk.end(rt, word, Err(stop))?;
-            desk.play(rt, behind)
+            desk.play_alone(rt, behind)
         }
     }
 }
