@@ -5,13 +5,13 @@ use Rattle.std.proofs.lemmas.Bool.{and_from, le-leb, ne_eqb, cond-true, cond-fal
 use Rattle.translation.specs.declared.causes.Cause.{Cause}
 use Rattle.translation.specs.declared.causes.Cause.TheVariants.{NetworkCongestion}
 use Rattle.message.specs.Read.{Parsed}
-use Rattle.pieces.specs.Pieces.{in_one, in_piece}
+use Rattle.pieces.specs.Pieces.{in_piece}
 use Rattle.writing.specs.Write.{encode, short_enough, near_enough, lengths_of, kept}
 use Rattle.outgoing.specs.Puts.{fits_line, put_outcome, put_by, Behind}
-use Rattle.outgoing.specs.Units.{Heading, one_message, piece_message, piece_messages, Cut}
+use Rattle.outgoing.specs.Units.{Heading, piece_message, piece_messages, Cut}
 
 -- a message that fits is put where there is a place
-pub goes : (places : ℕ) (p : Parsed) → fits_line p ≡ true → 0 < places → put_outcome places p ≡ Ok tt
+goes : (places : ℕ) (p : Parsed) → fits_line p ≡ true → 0 < places → put_outcome places p ≡ Ok tt
 goes places p f h = cond-true (fits_line p) _ _ f ∙ cond-false (eqb places 0) (Err NetworkCongestion) (Ok tt) (ne_eqb places 0 (omega arith))
 
 -- parts of these lengths fit
@@ -26,7 +26,7 @@ four a b c d ha hb hc hd =
     and_from (leb a 255) (leb b 255 && (leb c 255 && leb d 272)) (le-leb a 255 ha)
     (and_from (leb b 255) (leb c 255 && leb d 272) (le-leb b 255 hb) (both c 255 d 272 hc hd))
 
-pub piece_fits : (h : Heading) (reference : ℕ) (first : Bool) (remaining : ℕ) (d : List ℕ) → length h.called ≤ 32 → length h.calling ≤ 32
+piece_fits : (h : Heading) (reference : ℕ) (first : Bool) (remaining : ℕ) (d : List ℕ) → length h.called ≤ 32 → length h.calling ≤ 32
     → length d ≤ in_piece (length h.called) (length h.calling) → fits_line (piece_message h reference first remaining d) ≡ true
 piece_fits h reference first remaining d a b n =
     let x = length h.called in
@@ -35,16 +35,6 @@ piece_fits h reference first remaining d a b n =
     fits_by (piece_message h reference first remaining d)
     (four x y z (4 + 7 + 3 + x + y + z + 7) (omega arith) (omega arith) (omega arith) (omega arith))
     (both (4 + x + y) 255 (4 + x + y + z) 255 (omega arith) (omega arith))
-
-pub one_fits : (h : Heading) (d : List ℕ) → length h.called ≤ 32 → length h.calling ≤ 32 → length d ≤ 255
-    → length d ≤ in_one (length h.called) (length h.calling) → fits_line (one_message h d) ≡ true
-one_fits h d a b m n =
-    let x = length h.called in
-    let y = length h.calling in
-    let z = length d in
-    fits_by (one_message h d)
-    (four x y z (4 + 7 + 3 + x + y + z + 0) (omega arith) (omega arith) (omega arith) (omega arith))
-    (both (4 + x + y) 255 0 255 (omega arith) (omega arith))
 
 -- what m pieces of n octets are left of: all are whole but the last
 abbrev pub Left : ℕ → ℕ → List ℕ → Type 0
@@ -69,7 +59,7 @@ module _ (n : ℕ) (rest piece behind : List ℕ) (cut : rest ≡ piece ++ behin
   joined : length rest ≡ length piece + length behind
   joined = ap length cut ∙ length-append piece behind
 
-  pub left_behind : (k : ℕ) → Left n (suc k) rest → Left n k behind
+  left_behind : (k : ℕ) → Left n (suc k) rest → Left n k behind
   left_behind zero l = omega (arith, joined)
   left_behind (suc j) l =
       let m : (j + 1) * n ≡ j * n + 1 * n = add-mul j 1 n in
@@ -77,7 +67,7 @@ module _ (n : ℕ) (rest piece behind : List ℕ) (cut : rest ≡ piece ++ behin
       let e : length rest ≡ length piece + length behind = joined in
       (omega arith, omega arith)
 
-  pub front_message : (h : Heading) (reference : ℕ) (first : Bool) (k : ℕ) → Left n (suc k) rest
+  front_message : (h : Heading) (reference : ℕ) (first : Bool) (k : ℕ) → Left n (suc k) rest
       → left_messages h reference n first (suc k) rest ≡ encode (piece_message h reference first k piece) ∷ left_messages h reference n false k behind
   front_message h reference first zero l =
       let e : length rest ≡ length piece + length behind = joined in
@@ -93,12 +83,12 @@ module _ (n : ℕ) (rest piece behind : List ℕ) (cut : rest ≡ piece ++ behin
       ap (λ (y : List ℕ). encode (piece_message h reference first (suc j) y) ∷ piece_messages h reference n false j (drop n rest)) front
       ∙ ap (λ (y : List ℕ). encode (piece_message h reference first (suc j) piece) ∷ piece_messages h reference n false j y) back
 
-pub one_at_most : (r : Result (Unit {0}) Cause) (p : Parsed) → length (put_by r p) ≤ 1
+one_at_most : (r : Result (Unit {0}) Cause) (p : Parsed) → length (put_by r p) ≤ 1
 one_at_most (Ok _) p = omega arith
 one_at_most (Err _) p = omega arith
 
 -- how many messages there are
-pub count : (h : Heading) (reference n : ℕ) (first : Bool) (r : ℕ) (d : List ℕ) → length (piece_messages h reference n first r d) ≡ r + 1
+count : (h : Heading) (reference n : ℕ) (first : Bool) (r : ℕ) (d : List ℕ) → length (piece_messages h reference n first r d) ≡ r + 1
 count h reference n first zero d = refl
 count h reference n first (suc r) d = let c = count h reference n false r (drop n d) in omega arith
 
@@ -132,7 +122,7 @@ module _ {L : Type 0} (waiting : L → List (List ℕ)) (places : L → ℕ) (be
   -- one piece more
   module _ (now later : L) (size index : ℕ) (rest piece behind : List ℕ) (s : PutSo now size index rest) (cut : Cut h n r d)
       (some : 0 < length rest) (es : rest ≡ piece ++ behind) (long : length piece ≡ min size (length rest)) where
-    pub some_more : index < r + 1
+    some_more : index < r + 1
     some_more = let m : 0 < r + 1 - index = some_left n (r + 1 - index) rest s.left some in omega arith
 
     now_left : r + 1 - index ≡ suc (r - index)
@@ -141,7 +131,7 @@ module _ {L : Type 0} (waiting : L → List (List ℕ)) (places : L → ℕ) (be
     least_long : length piece ≡ min n (length rest)
     least_long = long ∙ ap (λ k. min k (length rest)) s.even
 
-    pub piece_put : (res : Result (Unit {0}) Cause) → res ≡ put_outcome (places now) (piece_message h reference (nat_eq index 0) (r - index) piece) → res ≡ Ok tt
+    piece_put : (res : Result (Unit {0}) Cause) → res ≡ put_outcome (places now) (piece_message h reference (nat_eq index 0) (r - index) piece) → res ≡ Ok tt
     piece_put res e =
         let m : index < r + 1 = some_more in
         let room : r + 1 ≤ places now + index = s.room in
