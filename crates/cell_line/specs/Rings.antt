@@ -126,6 +126,14 @@ others_are a cells head count h u p = sym (ap others (ring_take a cells head cou
 pub held_take : (a : List ℕ) (cells head count : ℕ) → head < cells → count ≤ cells → 0 < count → Held a cells head count → Held a cells (wrap cells head 1) (count - 1)
 held_take a cells head count h u p held k l = grind (arith, wrap_next cells head k h, held (k + 1))
 
+-- the length of the oldest message is one that a message may have
+pub held_oldest : (a : List ℕ) (cells head count : ℕ) → head < cells → 0 < count → Held a cells head count → (least_octets ≤ two a (cell_octets * head)) × (two a (cell_octets * head) ≤ most_octets)
+held_oldest a cells head count h p held = fits_bounds (two a (cell_octets * head)) (ap (λ (x : ℕ). fits (two a (cell_octets * x))) (sym (wrap_zero cells head h)) ∙ held 0 p)
+
+pub ring_none : (a : List ℕ) (cells head count : ℕ) → count ≡ 0 → messages a cells head count ≡ []
+unfolding messages
+ring_none a cells head count e = ap (λ n. map (λ k. cell_message a (cell_start cells head k)) (range_with_len 0 n)) e
+
 -- how many messages there are, and that each has a length that it may have
 pub ring_length : (a : List ℕ) (cells head count : ℕ) → length (messages a cells head count) ≡ count
 unfolding messages

@@ -173,6 +173,13 @@ pub record Took (a : List ℕ) (total used count n : ℕ) : Type 0 where
   pub held : Held a total count
   pub is : n ≡ length_of a total 0
 
+-- the later messages stand behind the oldest
+pub above_oldest : (a : List ℕ) (total count : ℕ) → Placed a total count → (k : ℕ) → k < count - 1 → length_of a total 0 ≤ offset_of a total (k + 1)
+above_oldest a total count p k l =
+    let q = p (k + 1) (omega arith) in
+    let u = oct_below a total 0 (k + 1) (omega arith) in
+    omega arith
+
 -- the oldest stands at the front
 pub oldest_in : (a : List ℕ) (total count : ℕ) → 0 < count → Placed a total count → (offset_of a total 0 ≡ 0) × (length_of a total 0 ≤ octets_of a total count)
 oldest_in a total count h p =

@@ -1,4 +1,4 @@
-ghost use Rattle.std.specs.Prelude.{◌≡◌, ◌+◌, ◌≤◌, ◌==◌, not, ◌||◌, is_ok, IfOk, nat_lt};
+ghost use Rattle.std.specs.Prelude.{◌≡◌, ◌+◌, ◌≤◌, not, ◌||◌, is_ok, IfOk, nat_lt};
 ghost use Rattle.slot_parts.specs.Deciding.{load_limit, first_load, load_follows, grown_load, decided, Within};
 
 use crate::load::Load;
@@ -34,12 +34,12 @@ pub enum Step {
 }
 
 impl PieceSize {
-    // The size of a piece, or why it is declined.
+    // The size of a piece, or why it is declined: too many remain, or its data is too long.
     pub fn new(remaining: u8, len: usize) -> Result<PieceSize, PieceRefusal>
-        ensures some { is_ok result ≡ not (nat_lt 15 remaining || (len == 0 || nat_lt 255 len)) }
+        ensures some { is_ok result ≡ not (nat_lt 15 remaining || nat_lt 255 len) }
         ensures value { IfOk result (λ s. (s.remaining ≡ remaining) × (s.len ≡ len)) }
     {
-        if remaining > REMAINING_MOST || len == 0 || len > DATA_MOST {
+        if remaining > REMAINING_MOST || len > DATA_MOST {
             return Err(PieceRefusal::OutOfRange);
         }
         Ok(PieceSize { remaining, len })

@@ -125,6 +125,9 @@ impl<'a, K: Mark + Drop> Slots<'a, K> {
             (piece_octets K.numbers key first remaining contents.now self.old.table.entries.now self.old.store.octets.now) }
         ensures idle { OnErr result (self.new ≡ self.old) }
     {
+        if contents.is_empty() {
+            return Err(PieceRefusal::OutOfRange);
+        }
         let size = PieceSize::new(remaining, contents.len())?;
         let step = decide(self.find_open(&key), first, size);
         Ok(self.act(step, key, contents))
