@@ -89,6 +89,7 @@ impl<'a> Address<'a> {
     // The address written anew: routed on subsystem or on title, with its code kept, removed or
     // put in, with this subsystem or none, and the same title. None where the octets are no
     // address, or nothing would be left of it.
+    // Stays: routing is one bit of the indicator here; the enum of it is a rule's, in a crate above.
     #[tactic(auto, using(crate::proofs::Rewrites::good_bounded, crate::proofs::Rewrites::rewriting))]
     pub fn rewritten(
         self,

@@ -2,6 +2,7 @@ ghost use Rattle.std.specs.Prelude.{◌≡◌, ◌/◌, ◌<◌, ◌≤◌, leng
 ghost use Rattle.cell_line.specs.Ring.{Held, cell_octets, messages};
 
 // A line in cells of 274 octets: two octets with the message's length, low octet first, and then the message. The messages that wait stand in the cells from head on, count of them, and the ring goes on at cell 0 after the last cell. The area belongs to the line until it is closed.
+// Stays: one area of fixed size, told octet for octet; a VecDeque would take memory at each put.
 #[derive(Drop)]
 pub struct CellLine {
     pub(crate) area: Vec<u8>,

@@ -120,6 +120,7 @@ impl InArea for CellLine {
     ghost emptied = { Prim.grind arith };
 
     // An empty line in the area given; an area under 4,416 octets is given back.
+    // Stays: each line tests its area by itself, in two lines of a crate of its own.
     #[tactic(auto, unfolding(crate::specs::Ring::messages))]
     fn new(area: Vec<u8>) -> Result<CellLine, (LineRefusal, Vec<u8>)>
         ensures { MatchResult result (λ s. (s.area ≡ area) × (waiting_in s ≡ []) × (places_in s ≡ vec_len area / cell_octets) × (s.head ≡ 0) × (4416 ≤ vec_len area)) (λ e. (e ≡ (LineRefusal.AreaTooSmall, area)) × (vec_len area < 4416)) }

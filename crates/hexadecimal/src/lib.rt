@@ -26,6 +26,7 @@ impl<T: Drop> From<AllocFailed<T>> for NoOctets {
     }
 }
 
+// Stays: digits by their ranges, as the text's definition tells them; char's own way would go through two casts.
 fn digit_value(b: u8) -> Option<u8>
     ensures value { result ≡ digit_value b }
     ensures bound { IfSome result (λ v. v < 16) }
@@ -57,6 +58,7 @@ fn octets_of_digits(heap: Global, text: &[u8]) -> Result<Vec<u8>, NoOctets>
     ensures { Made (octets_on [] text.now) result }
 {
     let mut out = Vec::new(heap);
+    // Stays: two digits and what is behind them by a pattern, which a loop over chunks would test again.
     let mut rest = text;
     while let [high, low, behind @ ..] = rest {
         out.push(pair_value(*high, *low).ok_or(NoOctets::NotHexadecimal)?)?;

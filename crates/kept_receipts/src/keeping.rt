@@ -51,6 +51,7 @@ impl<'a, K: Mark + Drop> KeptReceipts<'a, K> {
 
     // Takes in a piece; a receipt that is given for it is kept, as the newest. Want of memory for one is found before the call, which
     // is then not made.
+    // Stays: want of memory says that the call was not made, a refusal that the slots declined it, so one Result is in the other.
     pub fn piece<'d>(
         &mut self,
         key: K,
@@ -134,6 +135,7 @@ impl<'a, K: Mark + Drop> KeptReceipts<'a, K> {
         }
         let receipt = self.receipts.remove(place);
         let slot = receipt.slot();
+        // Stays: a kept receipt can be spent, so the other arm is a goal of the proof and no answer.
         match self.slots.release(receipt) {
             Ok(()) => Some(slot),
             Err((_why, _back)) => unreachable!(),
@@ -206,9 +208,7 @@ impl<'a, K: Mark + Drop> KeptReceipts<'a, K> {
         ensures { result ≡ vec_len self.entry.receipts }
     {
         let spent = self.receipts.len();
-        while !self.receipts.is_empty() {
-            self.release(0);
-        }
+        while self.release(0).is_some() {}
         let KeptReceipts { slots: _, receipts } = self;
         receipts.destroy_empty();
         spent

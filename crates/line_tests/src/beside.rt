@@ -20,6 +20,7 @@ pub(crate) fn check(holds: bool) -> Result<(), Fail>
 pub const FILL: u8 = 0xEE;
 
 // The number of a refusal, or 0 where there is none.
+// Stays: 0 stands for no refusal in the cases as they were worked out.
 pub(crate) fn number_of<T: Drop>(r: &Result<T, LineRefusal>) -> u8 {
     r.as_ref().err().map_or(0, |e| e.number())
 }

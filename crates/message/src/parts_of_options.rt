@@ -1,11 +1,11 @@
 ghost use Rattle.std.specs.Prelude.{◌≡◌, Option};
 ghost use Rattle.message.specs.Options.{part_seen, first_option, behind_option, segmentation_of, segmentation_found};
 
-pub(crate) const SEGMENTATION: u8 = 0x10;
+pub const SEGMENTATION: u8 = 0x10;
 
-pub(crate) const SEGMENTATION_LENGTH: u8 = 4;
+pub const SEGMENTATION_LENGTH: u8 = 4;
 
-pub(crate) const END: u8 = 0x00;
+pub const END: u8 = 0x00;
 
 // Which piece of a unit a message carries: whether it is the first, the protocol class that
 // the user asked for, how many pieces come after it, and the reference that they share.
@@ -19,6 +19,7 @@ pub struct Segmentation {
 }
 
 // One option of a message. The contents are a part of the message's own octets.
+// Stays: an enum of these three cases is a form that was asked for.
 #[derive(Clone, Copy)]
 pub enum OptionPart<'a> {
     Segmented(Segmentation),

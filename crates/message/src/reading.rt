@@ -13,15 +13,15 @@ use crate::parts_of_options::Options;
 use crate::scanning::OptionSpan;
 use address::{Address, Label};
 
-const MOST: usize = 272;
+pub const MOST: usize = 272;
 
-const UDT: u8 = 0x09;
+pub const UDT: u8 = 0x09;
 
-const UDTS: u8 = 0x0A;
+pub const UDTS: u8 = 0x0A;
 
-const XUDT: u8 = 0x11;
+pub const XUDT: u8 = 0x11;
 
-const XUDTS: u8 = 0x12;
+pub const XUDTS: u8 = 0x12;
 
 const MOST_HOPS: u8 = 15;
 
@@ -55,6 +55,7 @@ pub struct Trio<'a> {
 
 impl<'a> Body<'a> {
     // A UDT or UDTS, whose three pointers end where the rest begins.
+    // Stays: two heads, of three pointers and of four; one function for both would be told which by three more values.
     fn short(octets: &'a [u8], rest: &[u8], values: [u8; 3]) -> Body<'a>
         requires { (length octets.now ≤ 268) × (length rest.now ≤ length octets.now) }
         ensures octets { result.octets.now ≡ octets.entry.now }

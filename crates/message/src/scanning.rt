@@ -7,6 +7,7 @@ use crate::parts_of_options::{END, SEGMENTATION, SEGMENTATION_LENGTH};
 
 // Where the options of a message stand, end mark included, and whether segmentation is
 // among them; start and end are 0 where it has none.
+// Stays: 0 to 0 is an empty stretch, so a message without options needs no case of its own.
 #[derive(Clone, Copy)]
 pub struct OptionSpan {
     pub(crate) start: usize,

@@ -10,6 +10,7 @@ mod tests {
     use writing::WriteRefusal;
 
     // Octets in hexadecimal, and the number and offset of the fault; 0 where they are a message.
+    // Stays: the numbers are those of the cases as they were worked out.
     static CASES: [(&str, u8, usize); 48] = [
         // nothing at all
         ("-", 11, 0),

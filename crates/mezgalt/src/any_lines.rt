@@ -25,6 +25,7 @@ impl From<PackedLine> for AnyLine {
     }
 }
 
+// Stays: an arm for each kind, since which kind a line has is known only when a script runs.
 impl Line for AnyLine {
     ghost waiting = { elim [ Cell l ↦ ⟦<CellLine as Line>⟧.waiting l | Packed l ↦ ⟦<PackedLine as Line>⟧.waiting l ] };
 

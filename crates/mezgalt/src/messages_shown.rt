@@ -4,7 +4,7 @@ use crate::words;
 use address::{Address, Title};
 use message::{Form, Parts, Segmentation};
 
-// Stays: a bool and the forms are types of others, on which no Display can stand here.
+// Stays: a bool has words of its own, and no other Display can stand on it.
 fn yes_no(b: bool) -> &'static str {
     if b { "yes" } else { "no" }
 }
@@ -29,6 +29,7 @@ fn tell_form(rt: &HostRuntime, form: Form) -> Result<(), Stop> {
     Ok(())
 }
 
+// Stays: the forms are a type of another crate, on which no Display can stand here.
 fn name_of(form: Form) -> &'static str {
     match form {
         Form::Udt { .. } => "UDT",

@@ -62,6 +62,7 @@ impl Desk {
     }
 
     // Carries out a command that needs no slots.
+    // Stays: an arm a command, each given the runtime and its words; a struct of both would be taken apart at once.
     pub fn carry_out(&mut self, rt: &HostRuntime, word: &str, rest: &str) -> Result<(), Stop> {
         match word {
             "" => Ok(()),

@@ -6,12 +6,10 @@ use crate::stops::Stop;
 use crate::words;
 use crate::words::BadLine;
 use kept_receipts::{KeptAnswer, KeptReceipts, Whole};
+use slot_parts::deciding::UNIT_MOST;
+use slot_parts::layout::most_slots;
 use slots::{Entry, Load, Settings};
 use std::alloc::Global;
-
-const MOST_SLOTS: usize = 16;
-
-const STRETCH: usize = 3_952;
 
 // What the answers of a use add up to.
 #[derive(Default, Drop)]
@@ -99,10 +97,7 @@ impl Wanted {
 
     // How many slots there is memory for.
     fn slots(&self) -> usize {
-        self.records
-            .len()
-            .min(self.store.len() / STRETCH)
-            .min(MOST_SLOTS)
+        self.records.len().min(most_slots(self.store.len()))
     }
 
     // Opens the slots and plays lines with them.
@@ -168,7 +163,7 @@ fn slot_and_size(rest: &str) -> Result<(usize, usize), BadLine> {
         return Err(BadLine::NeedsNumber);
     }
     let size = if size.is_empty() {
-        STRETCH
+        UNIT_MOST
     } else {
         words::number_behind(size)?
     };
@@ -191,6 +186,7 @@ impl Use<'_> {
     fn tick(&mut self, rt: &HostRuntime, rest: &str) -> Result<(), Stop> {
         let times = times(rest)?;
         let mut lapsed = 0usize;
+        // Stays: a map that ticks would hide the change.
         for _ in 0..times {
             lapsed = lapsed.saturating_add(self.slots.tick());
         }
@@ -238,6 +234,7 @@ impl Use<'_> {
 
     // Plays lines while the slots are open.
     fn play(&mut self, rt: &HostRuntime, desk: &mut Desk, lines: &[&str]) -> Result<(), Stop> {
+        // Stays: an arm a command, as the help lists them.
         desk.play(rt, lines, |desk, word, rest| match word {
             "piece" => self.piece(rt, rest),
             "tick" => self.tick(rt, rest),

@@ -5,6 +5,7 @@ use crate::short::ShortOctets;
 
 impl<const N: usize> ShortOctets<N> {
     // A copy of the octets; none where they are more than N.
+    // Stays: a test with one way to fail; a TryFrom would add an error that says no more.
     pub fn new(octets: &[u8]) -> Option<ShortOctets<N>>
         ensures { short_found result ≡ cond (nat_le (length octets.now) N) (Some octets.now) None }
     {

@@ -4,11 +4,10 @@ ghost use Rattle.writing.specs.Write.{encode};
 ghost use Rattle.outgoing.specs.Puts.{fits_line, put_outcome, put_by, Behind};
 
 use line::Line;
+use line::queue::MESSAGE_MOST;
 use message::Parts;
 use translation::Cause;
 use writing::write;
-
-const MESSAGE_MOST: usize = 272;
 
 // Writes a message into the front of a buffer that any line message fits, and answers how long it is; none where it does not
 // fit a line.

@@ -3,6 +3,7 @@ ghost use Rattle.std.specs.Prelude.{◌≡◌, ◌+◌, ◌%◌, ◌<◌, is_som
 const REFERENCES: u32 = 16_777_216;
 
 // The reference that the pieces of a unit share: 24 bits.
+// Stays: 24 bits by its type, where a reference that is a mark may be any number.
 #[derive(Clone, Copy, PartialEq, Eq, Debug)]
 pub struct UnitReference {
     number: u32,
@@ -11,6 +12,7 @@ pub struct UnitReference {
 
 impl UnitReference {
     // The reference of a number; none above 24 bits.
+    // Stays: a test with one way to fail; a TryFrom would add an error that says no more.
     pub fn new(number: u32) -> Option<UnitReference>
         ensures some { is_some result ≡ nat_lt number 16777216 }
         ensures value { IfSome result (λ r. r.number ≡ number) }

@@ -9,6 +9,7 @@ ghost use Rattle.outgoing.specs.Returns.{returnable, return_form, return_code, r
 use crate::addressing::{calling_for, lacks_code, or_given};
 use crate::labelling::label_to;
 use crate::putting::put_message;
+use crate::units::MOST_HOPS;
 use address::{Address, AddressBuffer, PointCode};
 use line::Line;
 use message::{Form, Parts};
@@ -22,8 +23,6 @@ pub enum Givenback {
     ToldHere { subsystem: u8 },
     Discarded,
 }
-
-const MOST_HOPS: u8 = 15;
 
 // Whether a message is returned where it has a cause.
 fn is_returnable(parts: Parts<'_>) -> bool

@@ -9,12 +9,13 @@ use crate::putting::put_message;
 use crate::references::UnitReference;
 use address::{Address, Label};
 use line::Line;
+use message::parts_of_options::{END, SEGMENTATION, SEGMENTATION_LENGTH};
 use message::{Form, Options, Parts};
 use translation::Cause;
 
-// Stays: what it carries is told beside it, since each piece goes out under the same heading with other contents.
 // What a unit goes out with: destination and origin, addresses as they are written, the class that was asked for, whether it
 // asks for return, and its sequence number.
+// Stays: contents are given beside it, since each piece goes out under the same heading with others.
 #[derive(Clone, Copy)]
 pub struct Outgoing<'h> {
     pub dpc: u16,
@@ -26,17 +27,11 @@ pub struct Outgoing<'h> {
     pub sequence: u32,
 }
 
-const MOST_HOPS: u8 = 15;
+pub(crate) const MOST_HOPS: u8 = 15;
 
 const RETURN_BIT: u8 = 128;
 
 const FIRST_BIT: u8 = 128;
-
-const SEGMENTATION: u8 = 0x10;
-
-const SEGMENTATION_LENGTH: u8 = 4;
-
-const END: u8 = 0;
 
 // The link selection: in sequence the low 4 bits of the sequence number, else 0.
 // Stays: it takes a class by its number, since any number may be asked for.
@@ -57,6 +52,7 @@ fn class_octet(class: Class, returns: bool) -> u8
     class.number() + if returns { RETURN_BIT } else { 0 }
 }
 
+// Stays: class and reference are types with their ranges here, where a Segmentation that was read holds plain numbers.
 // Segmentation and the end mark. For put_piece, which knows the range.
 fn segmentation_part(first: bool, class: Class, remaining: u8, reference: UnitReference) -> [u8; 7]
     requires { remaining < 16 }

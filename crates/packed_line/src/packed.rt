@@ -2,6 +2,7 @@ ghost use Rattle.std.specs.Prelude.{◌≡◌, ◌+◌, ◌*◌, ◌<◌, ◌≤
 ghost use Rattle.packed_line.specs.Pack.{Held, Placed, messages, octets_of, uses};
 
 // A line in the first total octets of its area, 65,536 at most: used octets of messages end to end from the front, the oldest first, and an index of count entries from the end down, with two octets of a message's offset and two of its length. The area belongs to the line until it is closed.
+// Stays: one area of fixed size, told octet for octet; a VecDeque would take memory at each put.
 #[derive(Drop)]
 pub struct PackedLine {
     pub(crate) area: Vec<u8>,

@@ -103,6 +103,7 @@ impl InArea for PackedLine {
     ghost emptied = { Prim.grind arith };
 
     // An empty line in the first 65,536 octets of the area given, at most; an area under 4,416 octets is given back.
+    // Stays: each line tests its area by itself, in two lines of a crate of its own.
     #[tactic(auto, unfolding(crate::specs::Pack::messages, crate::specs::Pack::octets_of))]
     fn new(area: Vec<u8>) -> Result<PackedLine, (LineRefusal, Vec<u8>)>
         ensures { MatchResult result (λ s. (s.area ≡ area) × (waiting_in s ≡ []) × (places_in s ≡ places_beside (min (vec_len area) 65536) 0) × (s.used ≡ 0) × (4416 ≤ vec_len area)) (λ e. (e ≡ (LineRefusal.AreaTooSmall, area)) × (vec_len area < 4416)) }

@@ -10,7 +10,7 @@ ghost use Rattle.pieces.specs.Pieces.{piece_count, in_range, count_answer, count
 // take 14 of them; segmentation with its end mark takes 7 more.
 const ONE_MESSAGE: usize = 258;
 
-const ONE_PIECE: usize = 251;
+pub const ONE_PIECE: usize = 251;
 
 const MOST_UNIT: usize = 3_952;
 

@@ -17,6 +17,7 @@ pub struct BenchPlan {
 }
 
 // The destination that eight digits name, where they name one.
+// Stays: eight digits by name, since they are two numbers.
 fn planned(digits: &[u8]) -> Option<Destination>
     ensures { backup_seen result ≡ plan_destination digits.now }
 {

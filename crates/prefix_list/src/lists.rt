@@ -15,6 +15,7 @@ pub struct PrefixList<'a> {
 }
 
 // The better of what was found and an entry: the longer that fits, the earlier if equal.
+// Stays: max_by_key takes the last of equals, so the list would have to be turned.
 fn better_of(
     best: Option<PrefixEntry>,
     entry: &PrefixEntry,

@@ -115,6 +115,7 @@ impl<'n, N: Network> Node<'n, N> {
 
     // Where a message with this called address goes from here, or the cause why nowhere. The code is the address's own one, or
     // what stands for it.
+    // Stays: the code beside its address, since a return may be routed by its origin's.
     #[tactic(auto, unfolding(crate::specs::Targets::target_for))]
     pub fn target_for(&self, code: Option<PointCode>, address: Address<'_>) -> Result<Target, Cause>
         ensures { target_of result ≡ target_for (N.told self.now.network.now) (code_number self.now.code) (code_given code) address.entry.octets.now }

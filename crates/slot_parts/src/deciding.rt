@@ -86,6 +86,7 @@ impl PieceSize {
 }
 
 // The state of the slot and the arriving piece decide together. For slots, which keep their loads within bounds.
+// Stays: one match on slot state and piece together is a form that was asked for.
 pub fn decide(found: Option<OpenSlot>, first: bool, size: PieceSize) -> Step
     requires { Within found }
     ensures { result ≡ decided found first size.remaining size.len }

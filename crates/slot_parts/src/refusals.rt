@@ -25,7 +25,7 @@ pub enum PieceRefusal {
 #[derive(Clone, Copy, PartialEq, Eq, Debug, Error)]
 pub enum CopyRefusal {
     #[error("the receipt is of another station, or its slot is not whole")]
-    NotWhole = 51, // as of a release
+    NotWhole = 51, // the same as a release's
     #[error("the buffer is shorter than the unit")]
     BufferShort = 52,
 }
@@ -34,7 +34,7 @@ pub enum CopyRefusal {
 #[derive(Clone, Copy, PartialEq, Eq, Debug, Error)]
 pub enum ReleaseRefusal {
     #[error("the receipt is of another station, or its slot is not whole")]
-    NotWhole = 51, // as of a copy
+    NotWhole = 51, // the same as a copy's
 }
 
 impl SettingsRefusal {

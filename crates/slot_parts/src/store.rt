@@ -2,6 +2,7 @@ ghost use Rattle.std.specs.Prelude.{◌≡◌, ◌+◌, ◌≤◌, ◌++◌, len
 ghost use Rattle.slot_parts.specs.Copies.{overwritten};
 
 // Copies `from` over all of `to`. For the store, which lends equal lengths.
+// Stays: a part of the store lent on to a copying function is a form that was asked for.
 pub(crate) fn copy_into(to: &mut [u8], from: &[u8])
     requires { length to.old ≡ length from.now }
     ensures { to.new ≡ from.now }

@@ -23,7 +23,7 @@ pub enum PieceAnswer<'d, R = Receipt> {
 
 impl<'d, R> PieceAnswer<'d, R> {
     // The return cause of a piece that no slot takes in: 10 where there are none, 6 where none is free.
-    // Stays: the number of a cause, since causes by name are known to crates above only.
+    // Stays: a cause by its number, since its names are crate translation's, on which slots do not stand.
     pub fn cause(&self) -> Option<u8>
         ensures { result ≡ cause_of self.now }
     {

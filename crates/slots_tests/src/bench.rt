@@ -73,6 +73,7 @@ fn tick(
     times: u8,
 ) -> anyhow::Result<()> {
     let mut lapsed = 0usize;
+    // Stays: a map that ticks would hide the change.
     for _ in 0..times {
         lapsed = lapsed.saturating_add(slots.tick());
     }
@@ -134,6 +135,7 @@ fn one(
     slots: &mut KeptReceipts<'_, Reference>,
     call: Call,
 ) -> anyhow::Result<()> {
+    // Stays: a case is a list of calls, as test data.
     match call {
         Call::First(mark, remaining, len, fill) | Call::Later(mark, remaining, len, fill) => {
             let first = matches!(call, Call::First(..));
@@ -164,11 +166,7 @@ pub fn run(
 
 // So many free records.
 pub fn records(heap: Global, n: usize) -> anyhow::Result<Vec<Entry<Reference, Load>>> {
-    let mut made = Vec::new(heap);
-    for _ in 0..n {
-        made.push(Entry::Free)?;
-    }
-    Ok(made)
+    Ok((0..n).map(|_| Entry::Free).collect(heap)?)
 }
 
 // A store of so many octets.

@@ -44,6 +44,7 @@ fn caused<'m, L: Line, N: Network>(
 }
 
 // What is told of a piece for a subsystem, by the answer of the slots; or the cause against it.
+// Stays: subsystem and parts side by side, as the answers tell them.
 fn told<'m>(
     subsystem: u8,
     parts: Parts<'m>,
@@ -171,6 +172,7 @@ impl<'a> Station<'a> {
     }
 
     // Receives octets from a line: reads them, and routes what they say.
+    // Stays: line and network side by side, since the one is written and the other only asked.
     pub fn receive<'m, L: Line, N: Network>(
         &mut self,
         line: &mut L,

@@ -22,15 +22,10 @@ use address::{Address, AddressBuffer, PointCode};
 use line::Line;
 use outgoing::units::selection;
 use outgoing::{Class, Outgoing, UnitReference, calling_for, or_given, put_one, put_pieces};
-use pieces::piece_count;
+use pieces::{ONE_PIECE, piece_count};
 use routing::{Network, Target, code_of};
+use slot_parts::deciding::UNIT_MOST;
 use slots::Reference;
-
-// A unit has at most so many octets.
-const UNIT_MOST: usize = 3_952;
-
-// What a piece carries, less the written addresses.
-const PIECE_MOST: usize = 251;
 
 // So many ticks a reference is frozen.
 const FREEZING: u8 = 30;
@@ -91,7 +86,7 @@ impl<'a> Station<'a> {
             return Err(SendRefusal::TooFewPlaces);
         }
         let reference = self.last.next();
-        let each = PIECE_MOST - unit.called.octets().len() - unit.calling.octets().len();
+        let each = ONE_PIECE - unit.called.octets().len() - unit.calling.octets().len();
         put_pieces(line, unit, reference, each, (count - 1) as u8, contents);
         self.freeze(reference);
         Ok(Sent::Pieces {
@@ -184,7 +179,7 @@ impl<'a> Station<'a> {
     }
 
     // Sends a unit: to a subsystem here, or out to another code, in one message or in pieces.
-    // Stays: line and network are given side by side, since the one is written and the other only asked.
+    // Stays: line and network are given side by side, here and where a message is received, since the one is written and the other only asked.
     pub fn send<'d, L: Line, N: Network>(
         &mut self,
         line: &mut L,

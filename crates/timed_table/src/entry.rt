@@ -26,6 +26,7 @@ impl<K, V> Entry<K, V> {
     }
 
     // The load of a timed entry.
+    // Stays: two kinds of entry, two definitions; one function for both would need a closure.
     pub(crate) fn timed_load(&self) -> Option<V>
     where
         V: Copy,

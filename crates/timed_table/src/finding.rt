@@ -6,6 +6,7 @@ use crate::entry::{Entry, is_timed_as, tick_entry};
 use crate::mark::Mark;
 
 // The first entry that is timed under a mark, found alike for every kind of mark.
+// Stays: one search over a lent slice, for every kind of mark, is a form that was asked for.
 pub(crate) fn find<K: Mark, V>(entries: &[Entry<K, V>], key: &K) -> Option<usize>
     ensures value { result ≡ position (timed_as K.numbers (K.numbers key.now)) entries.now }
     ensures bound { IfSome result (λ i. i < length entries.now) }
@@ -54,20 +55,4 @@ pub(crate) fn free_all<K: Drop, V: Drop>(entries: &mut [Entry<K, V>])
     ensures { entries.new ≡ map (λ _. Free) entries.old }
 {
     entries.fill_with(|| Entry::Free);
-}
-
-// The load of entry i, if it is timed. For the table, which knows that there is an entry i.
-pub(crate) fn load_of<K, V: Copy>(entries: &[Entry<K, V>], i: usize) -> Option<V>
-    requires { i < length entries.now }
-    ensures { result ≡ timed_load (slice_index_or entries.now i Free) }
-{
-    entries[i].timed_load()
-}
-
-// The load of entry i, if it is held. For the table, too.
-pub(crate) fn held_of<K, V: Copy>(entries: &[Entry<K, V>], i: usize) -> Option<V>
-    requires { i < length entries.now }
-    ensures { result ≡ held_load (slice_index_or entries.now i Free) }
-{
-    entries[i].held_load()
 }

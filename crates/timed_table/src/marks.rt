@@ -7,19 +7,12 @@ use crate::reference::Reference;
 use crate::station_mark::{ADDRESS_LEAST, StationMark};
 use octets::ShortOctets;
 
-// Whether two slices hold the same octets.
-fn same_octets(a: &[u8], b: &[u8]) -> bool
-    ensures { result ≡ same_numbers a.now b.now }
-{
-    a == b
-}
-
 // Whether two references are the same, and the octets before them.
 #[tactic(auto, using(crate::proofs::Ends::same_ends))]
 fn same_ends(a: &[u8], b: &[u8], p: u32, q: u32) -> bool
     ensures { result ≡ same_numbers (a.now ++ (p ∷ [])) (b.now ++ (q ∷ [])) }
 {
-    p == q && same_octets(a, b)
+    p == q && a == b
 }
 
 impl Mark for Reference {
@@ -32,6 +25,7 @@ impl Mark for Reference {
 
 impl StationMark {
     // The mark of a unit's pieces; none where the calling address has not 2 to 32 octets.
+    // Stays: a test with one way to fail; a TryFrom would add an error that says no more.
     pub fn new(opc: u16, subsystem: u8, calling: &[u8], reference: u32) -> Option<StationMark>
         ensures some { is_some result ≡ not (nat_lt (length calling.now) 2 || nat_lt 32 (length calling.now)) }
         ensures value { IfSome result (λ m. station_numbers m ≡ opc ∷ subsystem ∷ (calling.now ++ (reference ∷ []))) }

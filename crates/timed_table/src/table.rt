@@ -4,7 +4,7 @@ ghost use Rattle.timed_table.specs.Tables.{Kept};
 ghost use Rattle.timed_table.specs.declared.entry.Entry.TheVariants.{Free, Timed};
 
 use crate::entry::{Entry, reload_entry};
-use crate::finding::{count_timed, find, free_all, held_of, last_free, load_of, tick_all};
+use crate::finding::{count_timed, find, free_all, last_free, tick_all};
 use crate::lent::TimedTable;
 use crate::mark::Mark;
 
@@ -62,7 +62,8 @@ impl<'a, K: Drop, V: Drop> TimedTable<'a, K, V> {
         requires { i < length self.now.entries.now }
         ensures { result ≡ timed_load (slice_index_or self.now.entries.now i Free) }
     {
-        load_of(self.entries, i)
+        let entries = &*self.entries;
+        entries[i].timed_load()
     }
 
     // The load of entry i, if it is held.
@@ -72,7 +73,8 @@ impl<'a, K: Drop, V: Drop> TimedTable<'a, K, V> {
         requires { i < length self.now.entries.now }
         ensures { result ≡ held_load (slice_index_or self.now.entries.now i Free) }
     {
-        held_of(self.entries, i)
+        let entries = &*self.entries;
+        entries[i].held_load()
     }
 
     // Writes entry i.

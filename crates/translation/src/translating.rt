@@ -46,7 +46,7 @@ pub fn route_for<X: Translator, V: Availability>(
 
 // Translates a called address: where the message goes, and its new called address; or the
 // cause why it can go nowhere.
-// Stays: the two tables are told apart here; a station's go together as one value in crate routing.
+// Stays: side by side, since a rule asks the translator alone and a trial what is known alone; one value would be taken apart at each call.
 pub fn translate<X: Translator, V: Availability>(
     translator: &X,
     availability: &V,

@@ -2,6 +2,7 @@ use address::Label;
 use message::Form;
 
 // A message as it is written: its parts as octets, and no options in UDT and UDTS.
+// Stays: beside a message's parts, since options are left out where the form has none and lengths are those of octets.
 #[derive(Clone, Copy)]
 pub struct Slices<'a> {
     pub(crate) label: Label,

@@ -6,9 +6,8 @@ ghost use Rattle.writing.specs.RoundTrip.{ReadsBack, WrittenReadsBack, ReadWrite
 
 use crate::layout::{Lengths, Slices};
 use crate::refusals::WriteRefusal;
+use message::reading::{MOST, UDT, UDTS, XUDT, XUDTS};
 use message::{Form, Parts};
-
-const MOST: usize = 272;
 
 const MOST_OF_OCTET: usize = 255;
 
@@ -24,14 +23,6 @@ const LONG_HEAD: usize = 7;
 const SHORT_POINTERS: usize = 3;
 
 const LONG_POINTERS: usize = 4;
-
-const UDT: u8 = 0x09;
-
-const UDTS: u8 = 0x0A;
-
-const XUDT: u8 = 0x11;
-
-const XUDTS: u8 = 0x12;
 
 // The options that are written: UDT and UDTS have none.
 fn options_in<'a>(form: Form, options: &'a [u8]) -> &'a [u8]
@@ -187,6 +178,7 @@ fn fill(s: Slices, n: Lengths, out: &mut [u8])
 }
 
 // Writes a message, or refuses it.
+// Stays: apart from `write`, so that the body is checked apart from the laws that `write` names.
 fn write_parts(parts: Parts, buffer: &mut [u8]) -> Result<usize, WriteRefusal>
     ensures answer { result ≡ write_answer (seen parts.entry) (length buffer.old) }
     ensures buffer { buffer.new ≡ buffer_after (seen parts.entry) buffer.old result }
