@@ -1,6 +1,7 @@
 -- The addresses with which a unit goes out are good.
-use Rattle.std.proofs.Common.{◌≡◌, ℕ, ◌<◌, Bool, true, false, cond, ◌&&◌, eqb, leb, List, length, is_some, Some, None, Ok, Err, Option, Result, refl, subst, arith}
-use Rattle.std.proofs.lemmas.Bool.{and_parts, leb-true}
+use Rattle.std.proofs.Common.{◌≡◌, ℕ, ◌<◌, Bool, true, false, ◌&&◌, eqb, leb, List, length, is_some, Some, None, Ok, Err, Option, Result, refl, subst, arith}
+use Rattle.std.proofs.lemmas.Bool.{and_parts, leb-true, cond_both}
+use Rattle.std.proofs.lemmas.Option.{cond_some}
 use Rattle.address.specs.declared.codes.PointCode.{PointCode}
 use Rattle.address.specs.declared.rewriting.CodeChange.{CodeChange}
 use Rattle.address.specs.declared.rewriting.CodeChange.TheVariants.{Keep, Remove, Put}
@@ -9,7 +10,6 @@ use Rattle.address.specs.Title.{GlobalTitle}
 use Rattle.address.specs.Rewrite.{rewrite, rewritten}
 use Rattle.address.proofs.Rewrites.{rewriting}
 use Rattle.translation.specs.declared.causes.Cause.{Cause}
-use Rattle.translation.specs.declared.causes.Cause.TheVariants.{NoTranslation, NoTranslationOfNature}
 use Rattle.translation.specs.declared.rules.Routing.TheVariants.{OnSubsystem}
 use Rattle.translation.specs.declared.states.CodeState.{CodeState}
 use Rattle.translation.specs.declared.states.SubsystemState.{SubsystemState}
@@ -22,15 +22,12 @@ use Rattle.outgoing.specs.Addressed.{lacks_code, with_code, completed}
 use Rattle.outgoing.specs.Returns.{calling_for}
 
 -- an address written anew
-given_if : (k : Bool) (x b : List ℕ) → (k ≡ true → address_ok x ≡ true) → cond k (Some x) None ≡ Some b → address_ok b ≡ true
-given_if true x b h e = let z : x ≡ b = cc in subst (λ (y : List ℕ). address_ok y ≡ true) z (h refl)
-given_if false x b h e = absurd (let z : ◌≡◌ {A = ℕ} 0 1 = cc in omega arith)
-
 good_rewritten : (on : Bool) (change : CodeChange) (s : Option ℕ) (a b : List ℕ) → rewritten on change s a ≡ Some b → address_ok b ≡ true
 good_rewritten on change s a b e =
     let x = rewrite on change s a in
-    given_if (address_ok a && leb 2 (length x)) x b
-    (λ k. let p = and_parts (address_ok a) (leb 2 (length x)) k in (rewriting on change s a p.0 (leb-true 2 (length x) p.1)).good) e
+    let q = cond_some (address_ok a && leb 2 (length x)) x b e in
+    let p = and_parts (address_ok a) (leb 2 (length x)) q.0 in
+    subst (λ (y : List ℕ). address_ok y ≡ true) q.1 (rewriting on change s a p.0 (leb-true 2 (length x) p.1)).good
 
 -- a translation's called address
 abbrev Translated : Result TranslationView Cause → Type 0
@@ -40,7 +37,7 @@ Translated (Err c) = Unit {0}
 -- what is routed by its title has one
 titled : (t : TablesView) (own : ℕ) (given : Option ℕ) (r : RouteView) (x : Option GlobalTitle)
     → Ok r ≡ by_rule t.codes t.subsystems own given (rule_for t.known t.fit x) → is_some x ≡ true
-titled t own given r None h = let z : ◌≡◌ {A = ℕ} 0 1 = cc in absurd (omega arith)
+titled t own given r None h = cc
 titled t own given r (Some x) h = refl
 
 good_called : (t : TablesView) (own : ℕ) (a : List ℕ) → address_ok a ≡ true → (r : Result RouteView Cause) → r ≡ route_for t.known t.fit t.codes t.subsystems own a → Translated (with_called a r)
@@ -50,24 +47,16 @@ good_called t own a ok (Ok r) e =
     (rewritten_there on r.subsystem a ok (titled t own (subsystem_of a) r (title_in a) e))
 good_called t own a ok (Err c) e = tt
 
-translated_if : (k : Bool) (x : Result TranslationView Cause) (c : Cause) → (k ≡ true → Translated x) → Translated (cond k x (Err c))
-translated_if true x c h = h refl
-translated_if false x c h = tt
-
 good_translation : (t : TablesView) (own : ℕ) (a : List ℕ) → Translated (translated_by t own a)
 good_translation t own a =
     let r = route_for t.known t.fit t.codes t.subsystems own a in
-    translated_if (address_ok a) (with_called a r) NoTranslationOfNature (λ ok. good_called t own a ok r refl)
+    cond_both (address_ok a) _ _ Translated (λ ok. good_called t own a ok r refl) (λ ok. tt)
 
 -- where a target is another code, the address for it is good
 abbrev pub Good : TargetView → Type 0
 Good (at_home s) = Unit {0}
 Good (away c a) = address_ok a ≡ true
 Good (no_target c) = Unit {0}
-
-good_cond : (b : Bool) (x y : TargetView) → Good x → Good y → Good (cond b x y)
-good_cond true x y p q = p
-good_cond false x y p q = q
 
 good_home : (s : Option ℕ) → Good (home s)
 good_home None = tt
@@ -88,34 +77,32 @@ good_unless None a = good_home (subsystem_of a)
 good_at_subsystem : (codes : ℕ → CodeState) (subsystems : ℕ → ℕ → SubsystemState) (own c : ℕ) (a : List ℕ) → Good (at_subsystem codes subsystems own c a)
 good_at_subsystem codes subsystems own c a =
     let e = trial_of codes subsystems own OnSubsystem c (subsystem_of a) in
-    good_cond (eqb c own) (home_unless e a) (goes_to e true c a) (good_unless e a) (good_goes e true c a)
+    cond_both (eqb c own) _ _ Good (λ b. good_unless e a) (λ b. good_goes e true c a)
 
 good_translated : (own : ℕ) (r : Result TranslationView Cause) → Translated r → Good (translated_target own r)
-good_translated own (Ok t) h = good_cond (eqb t.route.code own) (home t.route.subsystem) (away t.route.code t.called) (good_home t.route.subsystem) h
+good_translated own (Ok t) h = cond_both (eqb t.route.code own) _ _ Good (λ b. good_home t.route.subsystem) (λ b. h)
 good_translated own (Err c) h = tt
 
 good_at_title : (t : TablesView) (own c : ℕ) (a : List ℕ) → Good (at_title t own c a)
 good_at_title t own c a =
     let e = code_trial t.codes own c in
     let r = translated_by t own a in
-    good_cond (eqb c own) (translated_target own r) (goes_to e false c a) (good_translated own r (good_translation t own a)) (good_goes e false c a)
+    cond_both (eqb c own) _ _ Good (λ b. good_translated own r (good_translation t own a)) (λ b. good_goes e false c a)
 
 good_untitled : (codes : ℕ → CodeState) (subsystems : ℕ → ℕ → SubsystemState) (own : ℕ) (code : Option ℕ) (a : List ℕ) → Good (untitled_target codes subsystems own code a)
 good_untitled codes subsystems own None a = tt
 good_untitled codes subsystems own (Some c) a =
-    good_cond (nonzero (subsystem_of a)) (at_subsystem codes subsystems own c a) (no_target NoTranslation) (good_at_subsystem codes subsystems own c a) tt
+    cond_both (nonzero (subsystem_of a)) _ _ Good (λ b. good_at_subsystem codes subsystems own c a) (λ b. tt)
 
 good_titled : (t : TablesView) (own : ℕ) (code : Option ℕ) (a : List ℕ) → Good (titled_target t own code a)
 good_titled t own None a = good_translated own (translated_by t own a) (good_translation t own a)
 good_titled t own (Some c) a =
-    good_cond (on_subsystem_of a && nonzero (subsystem_of a)) (at_subsystem t.codes t.subsystems own c a) (at_title t own c a)
-    (good_at_subsystem t.codes t.subsystems own c a) (good_at_title t own c a)
+    cond_both (on_subsystem_of a && nonzero (subsystem_of a)) _ _ Good (λ b. good_at_subsystem t.codes t.subsystems own c a) (λ b. good_at_title t own c a)
 
 pub good_target : (t : TablesView) (own : ℕ) (code : Option ℕ) (a : List ℕ) → Good (target_for t own code a)
 unfolding target_for
 good_target t own code a =
-    good_cond (has_title a) (titled_target t own code a) (untitled_target t.codes t.subsystems own code a)
-    (good_titled t own code a) (good_untitled t.codes t.subsystems own code a)
+    cond_both (has_title a) _ _ Good (λ b. good_titled t own code a) (λ b. good_untitled t.codes t.subsystems own code a)
 
 -- the calling address, with the own code put into it or not
 with_code_ok : (n : ℕ) (a : List ℕ) → n < 16384 → address_ok a ≡ true → address_ok (with_code n a) ≡ true
@@ -124,13 +111,9 @@ with_code_ok n a l ok =
     let c : PointCode = record { value = n; fits = l } in
     (rewriting (on_subsystem_of a) (Put c) (subsystem_of a) a ok (omega arith)).good
 
-ok_cond : (b : Bool) (x y : List ℕ) → address_ok x ≡ true → address_ok y ≡ true → address_ok (cond b x y) ≡ true
-ok_cond true x y p q = p
-ok_cond false x y p q = q
-
 good_completed : (n : ℕ) (a : List ℕ) → n < 16384 → address_ok a ≡ true → address_ok (completed n a) ≡ true
 unfolding completed
-good_completed n a l ok = ok_cond (lacks_code a) (with_code n a) a (with_code_ok n a l ok) ok
+good_completed n a l ok = cond_both (lacks_code a) _ _ (λ x. address_ok x ≡ true) (λ b. with_code_ok n a l ok) (λ b. ok)
 
 pub good_calling : (own : ℕ) (called calling : List ℕ) → own < 16384 → address_ok calling ≡ true → address_ok (calling_for own called calling) ≡ true
-good_calling own called calling l ok = ok_cond (on_subsystem_of called) calling (completed own calling) ok (good_completed own calling l ok)
+good_calling own called calling l ok = cond_both (on_subsystem_of called) _ _ (λ x. address_ok x ≡ true) (λ b. ok) (λ b. good_completed own calling l ok)

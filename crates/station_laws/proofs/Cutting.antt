@@ -1,7 +1,7 @@
 -- What a call that answers "sent in pieces" has put on the line.
-use Rattle.std.proofs.Common.{◌≡◌, ℕ, zero, suc, ◌+◌, ◌-◌, ◌*◌, ◌/◌, ◌%◌, ◌<◌, ◌≤◌, Bool, true, false, cond, ◌&&◌, eqb, ltb, leb, List, [], ◌∷◌, ◌++◌, length, take, drop, Some, None, Ok, Option, sym, refl, ap, ◌∙◌, subst, append_assoc, add-mul, one-mul, arith}
+use Rattle.std.proofs.Common.{◌≡◌, ℕ, zero, suc, ◌+◌, ◌-◌, ◌*◌, ◌/◌, ◌%◌, ◌<◌, ◌≤◌, Bool, true, false, cond, ◌&&◌, eqb, ltb, leb, List, [], ◌∷◌, ◌++◌, length, take, drop, Some, None, Ok, Option, sym, refl, ap, ◌∙◌, subst, append_assoc, one-mul, arith}
 use Rattle.std.proofs.lemmas.List.{take-append-drop, length-take-le, length-drop}
-use Rattle.std.proofs.lemmas.Bool.{and_parts, or_left, leb-true, ltb-true, le-leb, lt-leb}
+use Rattle.std.proofs.lemmas.Bool.{and_parts, or_left, leb-true, ltb-true, le-leb, lt-leb, cond_both}
 use Rattle.address.specs.Address.{address_ok, code_of}
 use Rattle.address.proofs.Rewrites.{good_parts}
 use Rattle.message.specs.declared.messages.Form.TheVariants.{Xudt}
@@ -16,7 +16,7 @@ use Rattle.routing.specs.Meanings.{TablesView}
 use Rattle.routing.specs.Targets.{TargetView, at_home, away, no_target, target_for}
 use Rattle.outgoing.specs.Returns.{calling_for}
 use Rattle.outgoing.specs.Units.{Heading, selection, class_octet, segmentation_part, piece_message, piece_messages}
-use Rattle.station_laws.specs.Station.{View, Reply, declined, unread, no_way, handed_up, notice, from_pieces, by_slots, passed_on, returned, told_here, discarded, sent_here, sent_one, sent_pieces, Outcome, Request, quiet, check, heading_of, next, in_pieces, by_count, send_to, unit_length, sends, send}
+use Rattle.station_laws.specs.Station.{View, Reply, declined, sent_pieces, Outcome, Request, quiet, check, heading_of, next, in_pieces, by_count, send_to, unit_length, sends, send}
 use Rattle.station_laws.specs.Uses.{Use, after, outcome}
 use Rattle.station_laws.specs.Laws.{SentPiece, Carried, begins, continues, UnitSent, SentInPieces}
 use Rattle.station_laws.proofs.Addresses.{Good, good_target, good_calling}
@@ -112,9 +112,6 @@ Goes h n d0 r0 d r xs = Carried h.own h.code (selection 1 h.sequence) h.called h
 -- where a unit is longer than r pieces and no longer than one more, so is the rest behind the first piece
 more_than : (r p n : ℕ) → suc r * p < n → n ≤ (suc r + 1) * p → (p < n) × (r * p < n - p) × (n - p ≤ (r + 1) * p)
 more_than r p n a b =
-    let x : suc r * p ≡ r * p + p = ap (λ j. j * p) (let e : suc r ≡ r + 1 = omega arith in e) ∙ add-mul r 1 p ∙ ap (λ j. r * p + j) (one-mul p) in
-    let y : (suc r + 1) * p ≡ (r + 1) * p + p = ap (λ j. j * p) (let e : suc r + 1 ≡ r + 1 + 1 = omega arith in e) ∙ add-mul (r + 1) 1 p ∙ ap (λ j. (r + 1) * p + j) (one-mul p) in
-    let z : (r + 1) * p ≡ r * p + p = add-mul r 1 p ∙ ap (λ j. r * p + j) (one-mul p) in
     (omega arith, omega arith, omega arith)
 
 carry : (h : Heading) (n : ℕ) (d0 : List ℕ) (r0 : ℕ) (d : List ℕ) (r : ℕ) (xs : List (List ℕ)) (load : List ℕ) → Proper h → n < 16777216 → r < 16 → 1 ≤ long h
@@ -198,30 +195,14 @@ number a b n m ha hb hn e two =
 
 -- what is said of a reply, and of what was put on the line with it
 abbrev Says : ℕ → Request → List (List ℕ) → Reply → Type 0
-Says own q xs (declined n) = Unit {0}
-Says own q xs (unread n e) = Unit {0}
-Says own q xs (no_way n c) = Unit {0}
-Says own q xs (handed_up s p) = Unit {0}
-Says own q xs (notice s p) = Unit {0}
-Says own q xs (from_pieces s r) = Unit {0}
-Says own q xs (by_slots a) = Unit {0}
-Says own q xs (passed_on c) = Unit {0}
-Says own q xs (returned c d) = Unit {0}
-Says own q xs (told_here c s p) = Unit {0}
-Says own q xs (discarded c) = Unit {0}
-Says own q xs (sent_here s d) = Unit {0}
-Says own q xs (sent_one c l) = Unit {0}
 Says own q xs (sent_pieces c n r l) = c < 16384 → UnitSent own c n r l q xs
+Says own q xs _ = Unit {0}
 
 abbrev Fine : ℕ → Request → Outcome → Type 0
 Fine own q o = Says own q o.sent o.reply
 
-fine_cond : (own : ℕ) (q : Request) (b : Bool) (x y : Outcome) → (b ≡ true → Fine own q x) → (b ≡ false → Fine own q y) → Fine own q (cond b x y)
-fine_cond own q true x y f g = f refl
-fine_cond own q false x y f g = g refl
-
 fine_check : (own : ℕ) (q : Request) (b : Bool) (n : ℕ) (v : View) (x : Outcome) → (b ≡ true → Fine own q x) → Fine own q (check b n v x)
-fine_check own q b n v x f = fine_cond own q b x (quiet v (declined n)) f (λ e. tt)
+fine_check own q b n v x f = cond_both b x (quiet v (declined n)) (Fine own q) f (λ e. tt)
 
 -- what the checks of a call leave
 record Asked (own : ℕ) (q : Request) : Type 0 where
@@ -274,13 +255,13 @@ fine_pieces : (own code : ℕ) (called : List ℕ) (places : ℕ) (v : View) (q 
     → Fine own q (in_pieces places v (heading_of own code called q) q.contents (suc r) o)
 fine_pieces own code called places v q r None asked good e = tt
 fine_pieces own code called places v q r (Some i) asked good e =
-    fine_cond own q (ltb places (suc (suc r))) _ _ (λ b. tt) (λ b. λ l. unit_sent own code called q (next v.last) r asked good (omega arith) e l)
+    cond_both (ltb places (suc (suc r))) _ _ (Fine own q) (λ b. tt) (λ b. λ l. unit_sent own code called q (next v.last) r asked good (omega arith) e l)
 
 fine_count : (own code : ℕ) (called : List ℕ) (places : ℕ) (v : View) (q : Request) (n : ℕ) → Asked own q → address_ok called ≡ true
     → n ≡ count_answer (length called) (length (calling_for own called q.calling)) (length q.contents)
     → Fine own q (by_count places v (heading_of own code called q) q.contents n)
 fine_count own code called places v q zero asked good e = tt
-fine_count own code called places v q (suc zero) asked good e = fine_cond own q (eqb places 0) _ _ (λ b. tt) (λ b. tt)
+fine_count own code called places v q (suc zero) asked good e = cond_both (eqb places 0) _ _ (Fine own q) (λ b. tt) (λ b. tt)
 fine_count own code called places v q (suc (suc r)) asked good e = fine_pieces own code called places v q r (last_from is_free 0 None v.frozen) asked good e
 
 fine_to : (own places : ℕ) (v : View) (q : Request) (t : TargetView) → Asked own q → Good t → Fine own q (send_to own places v q t)

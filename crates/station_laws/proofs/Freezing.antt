@@ -1,7 +1,7 @@
 -- Why two units that are sent in pieces within 30 ticks never share a reference: each still holds an entry, and there are at most 64.
 use Rattle.std.proofs.Common.{◌≡◌, ℕ, zero, suc, ◌+◌, ◌-◌, ◌*◌, ◌/◌, ◌<◌, ◌≤◌, Bool, true, false, cond, eqb, ltb, leb, ◌⊎◌, List, [], ◌∷◌, ◌++◌, map, length, set, Some, None, Ok, Err, Option, Result, sym, refl, ap, ◌∙◌, subst, inl, inr, arith}
 use Rattle.std.proofs.lemmas.List.{length-set, length-map, length-replicate}
-use Rattle.std.proofs.lemmas.Bool.{le-leb, lt-leb, ltb-true, ltb-false}
+use Rattle.std.proofs.lemmas.Bool.{le-leb, lt-leb, ltb-true, ltb-false, cond_both}
 use Rattle.address.specs.Address.{address_ok, code_of}
 use Rattle.message.specs.declared.faults.ReadFault.{ReadFault}
 use Rattle.message.specs.Read.{Parsed, parse}
@@ -18,12 +18,12 @@ use Rattle.routing.specs.Ways.{WayView, to_subsystem, onward, nowhere, way_for}
 use Rattle.routing.specs.Deliveries.{DeliveryView, as_unit, as_notice, as_piece, delivery_of}
 use Rattle.routing.specs.Targets.{TargetView, at_home, away, no_target, target_for}
 use Rattle.outgoing.specs.declared.returning.Givenback.{Givenback}
-use Rattle.outgoing.specs.declared.returning.Givenback.TheVariants.{Returned, ToldHere, Discarded}
+use Rattle.outgoing.specs.declared.returning.Givenback.TheVariants.{Returned}
 use Rattle.outgoing.specs.Puts.{put_outcome}
 use Rattle.outgoing.specs.Addressed.{message_passed_on}
 use Rattle.outgoing.specs.Returns.{give_back}
 use Rattle.outgoing.specs.Units.{Heading}
-use Rattle.station_laws.specs.Station.{View, with_slots, Reply, declined, unread, no_way, handed_up, notice, from_pieces, by_slots, passed_on, returned, told_here, discarded, sent_here, sent_one, sent_pieces, Outcome, quiet, given_outcome, caused, piece_told, told_outcome, piece_outcome, piece_of, unmarked, brought, passing, routed_by, received, Request, check, heading_of, next, in_pieces, by_count, send_to, unit_length, sends, Event, send, receive, tick, copy, release, station_step}
+use Rattle.station_laws.specs.Station.{View, with_slots, Reply, declined, sent_pieces, Outcome, quiet, given_outcome, caused, piece_told, told_outcome, piece_of, unmarked, brought, passing, routed_by, received, Request, check, heading_of, next, in_pieces, by_count, send_to, unit_length, sends, Event, send, receive, tick, copy, release, station_step}
 use Rattle.station_laws.specs.Uses.{Use, after, outcome, is_tick, tick_count}
 use Rattle.station_laws.specs.Laws.{NeverShared}
 
@@ -34,20 +34,8 @@ Frozen = Entry Reference (Unit {0})
 
 -- the reference that a reply tells
 abbrev told : Reply → Option ℕ
-told (declined n) = None
-told (unread n e) = None
-told (no_way n c) = None
-told (handed_up s p) = None
-told (notice s p) = None
-told (from_pieces s r) = None
-told (by_slots a) = None
-told (passed_on c) = None
-told (returned c d) = None
-told (told_here c s p) = None
-told (discarded c) = None
-told (sent_here s d) = None
-told (sent_one c l) = None
 told (sent_pieces c n r l) = Some r
+told _ = None
 
 abbrev Still : View → Outcome → Type 0
 Still v o = (o.after.frozen ≡ v.frozen) × (o.after.last ≡ v.last) × (told o.reply ≡ None)
@@ -59,39 +47,27 @@ data Move (v : View) (n : ℕ) (o : Outcome) : Type 0 where
       → o.after.last ≡ next v.last → told o.reply ≡ Some (next v.last) → Move v n o
   older : n ≡ 1 → o.after.frozen ≡ map ticked v.frozen → o.after.last ≡ v.last → told o.reply ≡ None → Move v n o
 
-still_cond : (v : View) (b : Bool) (x y : Outcome) → Still v x → Still v y → Still v (cond b x y)
-still_cond v true x y p q = p
-still_cond v false x y p q = q
-
 still_given : (v w : View) (c : Cause) (p : Parsed) (d : Givenback) (s : List (List ℕ)) → w.frozen ≡ v.frozen → w.last ≡ v.last → Still v (given_outcome w c p (record { done = d; sent = s }))
 still_given v w c p (Returned code) s e f = (e, f, refl)
-still_given v w c p (ToldHere t) s e f = (e, f, refl)
-still_given v w c p Discarded s e f = (e, f, refl)
+still_given v w c p _ s e f = (e, f, refl)
 
 still_caused : (t : TablesView) (own places : ℕ) (v w : View) (p : Parsed) (c : Cause) → w.frozen ≡ v.frozen → w.last ≡ v.last → Still v (caused t own places w p c)
 still_caused t own places v w p c e f = still_given v w c p (give_back t own places c p).done (give_back t own places c p).sent e f
 
 still_piece : (t : TablesView) (own places : ℕ) (v : View) (ss : List law.Slot) (s : ℕ) (p : Parsed) (a : law.Answer) → Still v (told_outcome t own places (with_slots v ss) p (piece_told s p a))
 still_piece t own places v ss s p (law.declined n) = still_caused t own places v (with_slots v ss) p Unqualified refl refl
-still_piece t own places v ss s p (law.alone d) = (refl, refl, refl)
-still_piece t own places v ss s p (law.refused c) = still_caused t own places v (with_slots v ss) p (cond (eqb c 10) NoReassembly NetworkCongestion) refl refl
-still_piece t own places v ss s p (law.opens i) = (refl, refl, refl)
-still_piece t own places v ss s p (law.restarts i) = (refl, refl, refl)
-still_piece t own places v ss s p law.stray = (refl, refl, refl)
-still_piece t own places v ss s p (law.breaks i) = (refl, refl, refl)
-still_piece t own places v ss s p (law.holds i) = (refl, refl, refl)
-still_piece t own places v ss s p (law.hands r) = (refl, refl, refl)
 still_piece t own places v ss s p (law.lapses n) = still_caused t own places v (with_slots v ss) p Unqualified refl refl
 still_piece t own places v ss s p (law.released i) = still_caused t own places v (with_slots v ss) p Unqualified refl refl
 still_piece t own places v ss s p (law.copied d) = still_caused t own places v (with_slots v ss) p Unqualified refl refl
+still_piece t own places v ss s p (law.refused c) = still_caused t own places v (with_slots v ss) p (cond (eqb c 10) NoReassembly NetworkCongestion) refl refl
+still_piece t own places v ss s p _ = (refl, refl, refl)
 
 still_brought : (t : TablesView) (own T places : ℕ) (v : View) (s : ℕ) (p : Parsed) (d : DeliveryView) → Still v (brought t own T places v s p d)
 still_brought t own T places v s p as_unit = (refl, refl, refl)
 still_brought t own T places v s p as_notice = (refl, refl, refl)
 still_brought t own T places v s p (as_piece g) =
     let st = law.step own T v.slots (piece_of s p g) in
-    still_cond v (unmarked p) (caused t own places v p Unqualified) (piece_outcome t own places v s p st)
-    (still_caused t own places v v p Unqualified refl refl) (still_piece t own places v st.0 s p st.1)
+    cond_both (unmarked p) _ _ (Still v) (λ b. still_caused t own places v v p Unqualified refl refl) (λ b. still_piece t own places v st.0 s p st.1)
 
 still_passing : (t : TablesView) (own places : ℕ) (v : View) (p : Parsed) (code : ℕ) (q : Parsed) (r : Result (Unit {0}) Cause) → Still v (passing t own places v p code q r)
 still_passing t own places v p code q (Ok x) = (refl, refl, refl)
@@ -106,7 +82,7 @@ still_routed t own T places v p (nowhere c) = still_caused t own places v v p c 
 still_received : (t : TablesView) (own T places : ℕ) (v : View) (r : Result Parsed ReadFault) → Still v (received t own T places v r)
 still_received t own T places v (Ok p) =
     let w = way_for t own p.form p.called in
-    still_cond v (eqb p.label.dpc own) (routed_by t own T places v p w) (quiet v (declined 42)) (still_routed t own T places v p w) (refl, refl, refl)
+    cond_both (eqb p.label.dpc own) _ _ (Still v) (λ b. still_routed t own T places v p w) (λ b. (refl, refl, refl))
 still_received t own T places v (Err e) = (refl, refl, refl)
 
 move_cond : (v : View) (b : Bool) (x y : Outcome) → Move v 0 x → Move v 0 y → Move v 0 (cond b x y)
@@ -208,7 +184,7 @@ taken k n i x [] found h l e = inl e
 taken k n i x (t ∷ ts) found h l e = taken_on k n i x t ts found h l (taken k (n + 1) i x ts (cond (is_free t) (Some n) found) h l e)
 
 live_of : (k i : ℕ) (x : Frozen) (ts : List Frozen) → Taken k x 0 None ts i → live k (set ts i x) ≡ 1 + live k ts
-live_of k i x ts (inl e) = absurd (let z : ◌≡◌ {A = ℕ} 0 1 = cc in omega arith)
+live_of k i x ts (inl e) = cc
 live_of k i x ts (inr (j, e, f)) = let z : j ≡ i = omega arith in subst (λ (y : ℕ). live k (set ts y x) ≡ 1 + live k ts) z f
 
 live_take : (k i : ℕ) (x : Frozen) (ts : List Frozen) → 1 ≤ k → k ≤ left x → last_from is_free 0 None ts ≡ Some i → live k (set ts i x) ≡ 1 + live k ts
@@ -291,13 +267,13 @@ abbrev Gave : View → Outcome → ℕ → Type 0
 Gave v o x = (x ≡ next v.last) × (o.after.last ≡ x) × (1 ≤ live 30 o.after.frozen)
 
 gave_by : (n x : ℕ) (v : View) (o : Outcome) → Move v n o → told o.reply ≡ Some x → Gave v o x
-gave_by n x v o (still z (p, q, r)) e = absurd (let z : ◌≡◌ {A = ℕ} 0 1 = cc in omega arith)
+gave_by n x v o (still z (p, q, r)) e = cc
 gave_by n x v o (took z i f p q r) e =
     let y : next v.last ≡ x = cc in
     let t = live_take 30 i (Timed (record { number = next v.last }) 30 tt) v.frozen (omega arith) (omega arith) f in
     let w = ap (live 30) p in
     (sym y, q ∙ y, omega arith)
-gave_by n x v o (older z p q r) e = absurd (let z : ◌≡◌ {A = ℕ} 0 1 = cc in omega arith)
+gave_by n x v o (older z p q r) e = cc
 
 pub never_shared : (u : Use) → NeverShared u
 never_shared u h g e₁ e₂ code₁ count₁ reference₁ sls₁ code₂ count₂ reference₂ sls₂ few a b near same =

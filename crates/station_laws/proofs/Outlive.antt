@@ -27,8 +27,8 @@ ends_felt u h i e y w (laws.lapsed k) =
 
 over_felt : (u : Use) (h : List Event) (i : ℕ) (g : List Event) (y : List law.Event) → project u g ≡ y
     → laws.Over (slotly u) (project u h) i y → Over u h i g
-over_felt u h i [] y w (laws.now_over {e = e} {g = g} k) = absurd (let z : ◌≡◌ {A = ℕ} 0 1 = cc in omega arith)
-over_felt u h i [] y w (laws.before {e = e} {g = g} k) = absurd (let z : ◌≡◌ {A = ℕ} 0 1 = cc in omega arith)
+over_felt u h i [] y w (laws.now_over {e = e} {g = g} k) = cc
+over_felt u h i [] y w (laws.before {e = e} {g = g} k) = cc
 over_felt u h i (x ∷ xs) y w (laws.now_over {e = e} {g = g} k) =
     let w1 : felt u.code x ≡ e = cc in
     let w2 : project u xs ≡ g = cc in

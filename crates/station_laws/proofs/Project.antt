@@ -14,7 +14,7 @@ use Rattle.routing.specs.Ways.{WayView, to_subsystem, onward, nowhere, way_for}
 use Rattle.routing.specs.Deliveries.{DeliveryView, as_unit, as_notice, as_piece, delivery_of}
 use Rattle.routing.specs.Targets.{TargetView, at_home, away, no_target, target_for}
 use Rattle.outgoing.specs.declared.returning.Givenback.{Givenback}
-use Rattle.outgoing.specs.declared.returning.Givenback.TheVariants.{Returned, ToldHere, Discarded}
+use Rattle.outgoing.specs.declared.returning.Givenback.TheVariants.{Returned}
 use Rattle.outgoing.specs.Puts.{put_outcome}
 use Rattle.outgoing.specs.Addressed.{message_passed_on}
 use Rattle.outgoing.specs.Returns.{give_back}
@@ -22,7 +22,7 @@ use Rattle.outgoing.specs.Units.{Heading}
 use Rattle.slot_laws.specs.Machine as law
 use Rattle.slot_laws.specs.Uses as laws
 use Rattle.slot_laws.proofs.Conserve as conserve
-use Rattle.station_laws.specs.Station.{View, with_slots, Reply, declined, unread, no_way, handed_up, notice, from_pieces, by_slots, passed_on, returned, told_here, discarded, sent_here, sent_one, sent_pieces, Outcome, quiet, given_reply, caused, piece_told, told_outcome, piece_of, unmarked, brought, passing, routed_by, received, Request, check, heading_of, in_pieces, by_count, goes_out, send_to, unit_length, sends, Event, send, receive, tick, copy, release, slot_call, station_step}
+use Rattle.station_laws.specs.Station.{View, with_slots, Reply, declined, unread, no_way, handed_up, notice, from_pieces, by_slots, sent_here, sent_one, sent_pieces, Outcome, quiet, given_reply, caused, piece_told, told_outcome, piece_of, unmarked, brought, passing, routed_by, received, Request, check, heading_of, in_pieces, by_count, goes_out, send_to, unit_length, sends, Event, send, receive, tick, copy, release, slot_call, station_step}
 use Rattle.station_laws.specs.Uses.{Use, after, outcome, is_tick, tick_count}
 use Rattle.station_laws.specs.Laws.{refuses, counted, total, Account, declines, DeclinedAltersNothing}
 
@@ -68,61 +68,25 @@ abbrev pub Idle : law.Answer → Type 0
 Idle (law.declined n) = Unit {0}
 Idle (law.alone d) = Unit {0}
 Idle (law.refused c) = Unit {0}
-Idle (law.opens i) = ⊥
-Idle (law.restarts i) = ⊥
-Idle law.stray = ⊥
-Idle (law.breaks i) = ⊥
-Idle (law.holds i) = ⊥
-Idle (law.hands r) = ⊥
-Idle (law.lapses n) = ⊥
-Idle (law.released i) = ⊥
 Idle (law.copied d) = Unit {0}
+Idle _ = ⊥
 
 abbrev pub NoHand : law.Answer → Type 0
-NoHand (law.declined n) = Unit {0}
-NoHand (law.alone d) = Unit {0}
-NoHand (law.refused c) = Unit {0}
-NoHand (law.opens i) = Unit {0}
-NoHand (law.restarts i) = Unit {0}
-NoHand law.stray = Unit {0}
-NoHand (law.breaks i) = Unit {0}
-NoHand (law.holds i) = Unit {0}
 NoHand (law.hands r) = ⊥
-NoHand (law.lapses n) = Unit {0}
-NoHand (law.released i) = Unit {0}
-NoHand (law.copied d) = Unit {0}
+NoHand _ = Unit {0}
 
 -- an answer to a piece
 abbrev Piecely : law.Answer → Type 0
-Piecely (law.declined n) = Unit {0}
-Piecely (law.alone d) = Unit {0}
-Piecely (law.refused c) = Unit {0}
-Piecely (law.opens i) = Unit {0}
-Piecely (law.restarts i) = Unit {0}
-Piecely law.stray = Unit {0}
-Piecely (law.breaks i) = Unit {0}
-Piecely (law.holds i) = Unit {0}
-Piecely (law.hands r) = Unit {0}
 Piecely (law.lapses n) = ⊥
 Piecely (law.released i) = ⊥
 Piecely (law.copied d) = ⊥
+Piecely _ = Unit {0}
 
 -- a reply that names no answer of the slots
 abbrev pub Plain : Reply → Type 0
-Plain (declined n) = Unit {0}
-Plain (unread n e) = Unit {0}
-Plain (no_way n c) = Unit {0}
-Plain (handed_up s p) = Unit {0}
-Plain (notice s p) = Unit {0}
 Plain (from_pieces s r) = ⊥
 Plain (by_slots a) = ⊥
-Plain (passed_on c) = Unit {0}
-Plain (returned c d) = Unit {0}
-Plain (told_here c s p) = Unit {0}
-Plain (discarded c) = Unit {0}
-Plain (sent_here s d) = Unit {0}
-Plain (sent_one c l) = Unit {0}
-Plain (sent_pieces c n r l) = Unit {0}
+Plain _ = Unit {0}
 
 pub data Says : Reply → law.Answer → Type 0 where
   gives : (s : ℕ) (r : law.Receipt) → Says (from_pieces s r) (law.hands r)
@@ -158,8 +122,7 @@ aside C T v o k = record { slots = k.slots; says = other o.reply _ k.plain (copy
 -- a message with a cause
 pub given_plain : (c : Cause) (p : Parsed) (g : Givenback) → Plain (given_reply c p g) × (declines (given_reply c p g) ≡ false)
 given_plain c p (Returned code) = (tt, refl)
-given_plain c p (ToldHere s) = (tt, refl)
-given_plain c p Discarded = (tt, refl)
+given_plain c p _ = (tt, refl)
 
 given_idle : {X : Type 0} (c : Cause) (p : Parsed) (g : Givenback) → declines (given_reply c p g) ≡ true → X
 given_idle c p g e = absurd (false≢true (sym (given_plain c p g).1 ∙ e))
@@ -260,15 +223,11 @@ module _ (t : TablesView) (own places : ℕ) (v : View) (s : ℕ) (p : Parsed) (
   piece_follows (law.declined n) k = cause_follows Unqualified (law.declined n) tt
   piece_follows (law.alone d) k = record { slots = refl; says = other (handed_up s p) (law.alone d) tt tt; idle = λ e. absurd (false≢true e) }
   piece_follows (law.refused c) k = cause_follows _ (law.refused c) tt
-  piece_follows (law.opens i) k = slots_follow (law.opens i) tt refl
-  piece_follows (law.restarts i) k = slots_follow (law.restarts i) tt refl
-  piece_follows law.stray k = slots_follow law.stray tt refl
-  piece_follows (law.breaks i) k = slots_follow (law.breaks i) tt refl
-  piece_follows (law.holds i) k = slots_follow (law.holds i) tt refl
   piece_follows (law.hands r) k = record { slots = refl; says = gives s r; idle = λ e. absurd (false≢true e) }
   piece_follows (law.lapses n) k = absurd k
   piece_follows (law.released i) k = absurd k
   piece_follows (law.copied d) k = absurd k
+  piece_follows a k = slots_follow a tt refl
 
 -- receiving
 module _ (t : TablesView) (own T places : ℕ) (v : View) where
@@ -303,18 +262,8 @@ module _ (t : TablesView) (own T places : ℕ) (v : View) where
 
 -- the slots' own calls
 idle_no_hand : (a : law.Answer) → Idle a → NoHand a
-idle_no_hand (law.declined n) k = tt
-idle_no_hand (law.alone d) k = tt
-idle_no_hand (law.refused c) k = tt
-idle_no_hand (law.opens i) k = tt
-idle_no_hand (law.restarts i) k = tt
-idle_no_hand law.stray k = tt
-idle_no_hand (law.breaks i) k = tt
-idle_no_hand (law.holds i) k = tt
 idle_no_hand (law.hands r) k = k
-idle_no_hand (law.lapses n) k = tt
-idle_no_hand (law.released i) k = tt
-idle_no_hand (law.copied d) k = tt
+idle_no_hand _ k = tt
 
 release_follows : (v : View) (i : ℕ) (s : law.Slot) → Follows v (law.release_step v.slots i s) (slot_call v (law.release_step v.slots i s))
 release_follows v i law.free = record { slots = refl; says = tells (law.declined 51) tt; idle = λ e. (refl, refl) }
@@ -351,20 +300,9 @@ replies_agree u h e =
 -- The account.
 
 counted_plain : (f : law.Answer → ℕ) (x : Reply) → Plain x → counted f x ≡ 0
-counted_plain f (declined n) k = refl
-counted_plain f (unread n e) k = refl
-counted_plain f (no_way n c) k = refl
-counted_plain f (handed_up s p) k = refl
-counted_plain f (notice s p) k = refl
 counted_plain f (from_pieces s r) k = absurd k
 counted_plain f (by_slots a) k = absurd k
-counted_plain f (passed_on c) k = refl
-counted_plain f (returned c d) k = refl
-counted_plain f (told_here c s p) k = refl
-counted_plain f (discarded c) k = refl
-counted_plain f (sent_here s d) k = refl
-counted_plain f (sent_one c l) k = refl
-counted_plain f (sent_pieces c n r l) k = refl
+counted_plain f _ k = refl
 
 -- what gives nothing to an idle answer
 abbrev Fair : (law.Answer → ℕ) → Type 0
@@ -382,68 +320,20 @@ total_agree f k u (e ∷ h) =
     let past = total_agree f k u h in
     omega arith
 
-fair_opened : Fair laws.counts_opened
-fair_opened (law.declined n) k = refl
-fair_opened (law.alone d) k = refl
-fair_opened (law.refused c) k = refl
-fair_opened (law.opens i) k = absurd k
-fair_opened (law.restarts i) k = absurd k
-fair_opened law.stray k = refl
-fair_opened (law.breaks i) k = refl
-fair_opened (law.holds i) k = refl
-fair_opened (law.hands r) k = refl
-fair_opened (law.lapses n) k = refl
-fair_opened (law.released i) k = refl
-fair_opened (law.copied d) k = refl
-
-fair_handed : Fair laws.counts_handed
-fair_handed (law.declined n) k = refl
-fair_handed (law.alone d) k = refl
-fair_handed (law.refused c) k = refl
-fair_handed (law.opens i) k = refl
-fair_handed (law.restarts i) k = refl
-fair_handed law.stray k = refl
-fair_handed (law.breaks i) k = refl
-fair_handed (law.holds i) k = refl
-fair_handed (law.hands r) k = absurd k
-fair_handed (law.lapses n) k = refl
-fair_handed (law.released i) k = refl
-fair_handed (law.copied d) k = refl
-
-fair_broken : Fair laws.counts_broken
-fair_broken (law.declined n) k = refl
-fair_broken (law.alone d) k = refl
-fair_broken (law.refused c) k = refl
-fair_broken (law.opens i) k = refl
-fair_broken (law.restarts i) k = absurd k
-fair_broken law.stray k = refl
-fair_broken (law.breaks i) k = absurd k
-fair_broken (law.holds i) k = refl
-fair_broken (law.hands r) k = refl
-fair_broken (law.lapses n) k = refl
-fair_broken (law.released i) k = refl
-fair_broken (law.copied d) k = refl
-
-fair_lapsed : Fair laws.counts_lapsed
-fair_lapsed (law.declined n) k = refl
-fair_lapsed (law.alone d) k = refl
-fair_lapsed (law.refused c) k = refl
-fair_lapsed (law.opens i) k = refl
-fair_lapsed (law.restarts i) k = refl
-fair_lapsed law.stray k = refl
-fair_lapsed (law.breaks i) k = refl
-fair_lapsed (law.holds i) k = refl
-fair_lapsed (law.hands r) k = refl
-fair_lapsed (law.lapses n) k = absurd k
-fair_lapsed (law.released i) k = refl
-fair_lapsed (law.copied d) k = refl
+-- what is opened, handed up, broken and lapsed
+fair : (a : law.Answer) → Idle a → (laws.counts_opened a ≡ 0) × (laws.counts_handed a ≡ 0) × (laws.counts_broken a ≡ 0) × (laws.counts_lapsed a ≡ 0)
+fair (law.declined n) k = (refl, refl, refl, refl)
+fair (law.alone d) k = (refl, refl, refl, refl)
+fair (law.refused c) k = (refl, refl, refl, refl)
+fair (law.copied d) k = (refl, refl, refl, refl)
+fair _ k = absurd k
 
 pub account : (u : Use) → Account u
 account u h =
-    let o = total_agree laws.counts_opened fair_opened u h in
-    let d = total_agree laws.counts_handed fair_handed u h in
-    let b = total_agree laws.counts_broken fair_broken u h in
-    let l = total_agree laws.counts_lapsed fair_lapsed u h in
+    let o = total_agree laws.counts_opened (λ a k. (fair a k).0) u h in
+    let d = total_agree laws.counts_handed (λ a k. (fair a k).1) u h in
+    let b = total_agree laws.counts_broken (λ a k. (fair a k).2) u h in
+    let l = total_agree laws.counts_lapsed (λ a k. (fair a k).3) u h in
     let s = ap law.open_count (slots_agree u h) in
     let c = conserve.account (slotly u) (project u h) in
     omega arith
@@ -465,11 +355,11 @@ says_by x a b (other y c p i) e n k = absurd (k (subst Idle e i))
 
 pub hands_said : (x : Reply) (a : law.Answer) (s : ℕ) (r : law.Receipt) → Says x a → x ≡ from_pieces s r → a ≡ law.hands r
 hands_said x a s r (gives t q) e = let k : q ≡ r = cc in ap law.hands k
-hands_said x a s r (tells b n) e = absurd (let z : ◌≡◌ {A = ℕ} 0 1 = cc in omega arith)
+hands_said x a s r (tells b n) e = cc
 hands_said x a s r (other y b p i) e = absurd (subst Plain e p)
 
 pub by_said : (x : Reply) (a b : law.Answer) → Says x a → x ≡ by_slots b → a ≡ b
-by_said x a b (gives s q) e = absurd (let z : ◌≡◌ {A = ℕ} 0 1 = cc in omega arith)
+by_said x a b (gives s q) e = cc
 by_said x a b (tells c n) e = cc
 by_said x a b (other y c p i) e = absurd (subst Plain e p)
 
@@ -513,11 +403,8 @@ ticks_agree u (e ∷ g) =
 
 -- only a tick is felt as a tick
 one_tick : (e : Event) → is_tick e ≡ 1 → e ≡ tick
-one_tick (send t places q) k = absurd (omega arith)
-one_tick (receive t places octets) k = absurd (omega arith)
 one_tick tick k = refl
-one_tick (copy r room) k = absurd (omega arith)
-one_tick (release r) k = absurd (omega arith)
+one_tick _ k = absurd (omega arith)
 
 pub felt_tick : (own : ℕ) (e : Event) → felt own e ≡ law.tick → e ≡ tick
 felt_tick own e k = one_tick e (sym (tick_agrees own e) ∙ ap laws.is_tick k)

@@ -4,7 +4,7 @@ use Rattle.std.proofs.lemmas.List.{length-map, same_from_push}
 use Rattle.std.proofs.lemmas.Bool.{eqb-true, eq-eqb, ltb-false, le-ltb, or_parts, or_from, cond-true, cond-false}
 use Rattle.message.specs.declared.faults.ReadFault.{ReadFault}
 use Rattle.message.specs.declared.messages.Form.{Form}
-use Rattle.message.specs.declared.messages.Form.TheVariants.{Udt, Udts, Xudt, Xudts}
+use Rattle.message.specs.declared.messages.Form.TheVariants.{Xudt}
 use Rattle.message.specs.declared.parts_of_options.Segmentation.{Segmentation}
 use Rattle.message.specs.Options.{segmentation_found}
 use Rattle.message.specs.Read.{Parsed, parse}
@@ -16,7 +16,7 @@ use Rattle.outgoing.specs.Returns.{give_back}
 use Rattle.slot_laws.specs.Machine as law
 use Rattle.slot_laws.specs.Uses as laws
 use Rattle.slot_laws.proofs.Keep as keep
-use Rattle.station_laws.specs.Station.{View, with_slots, from_pieces, by_slots, Outcome, mark, piece_told, told_outcome, piece_of, unmarked, brought, routed_by, received, Event, send, receive, tick, copy, release, station_step}
+use Rattle.station_laws.specs.Station.{View, with_slots, from_pieces, by_slots, Outcome, mark, piece_told, told_outcome, piece_of, unmarked, brought, routed_by, received, Event, receive, station_step}
 use Rattle.station_laws.specs.Uses.{Use, after, At, Sender, Piece, PieceAt, Joined, first, then, HandedUp, Unreleased}
 use Rattle.station_laws.specs.Laws.{OneSender, Kept}
 use Rattle.station_laws.proofs.Project.{nothing, felt_marked, felt_as, felt_way, felt_read, felt_octets, felt, Plain, given_plain, slotly, project, slots_agree, replies_agree, says_hands, says_by, hands_said, by_said}
@@ -41,14 +41,12 @@ same_sender w z e =
 -- What is felt as a piece reads as one.
 
 segmented_piece : (o : Option Segmentation) (g : Segmentation) → segmented_as o ≡ as_piece g → o ≡ Some g
-segmented_piece None g e = absurd (let z : ◌≡◌ {A = ℕ} 0 1 = cc in omega arith)
-segmented_piece (Some k) g e = cc
+segmented_piece None g e = cc
+segmented_piece _ g e = cc
 
 delivered_piece : (f : Form) (o : List ℕ) (g : Segmentation) → delivery_of f o ≡ as_piece g → (c : ℕ) × (h : ℕ) × (f ≡ Xudt c h) × (segmentation_found o ≡ Some g)
-delivered_piece (Udt c) o g e = absurd (let z : ◌≡◌ {A = ℕ} 0 1 = cc in omega arith)
-delivered_piece (Udts c) o g e = absurd (let z : ◌≡◌ {A = ℕ} 0 1 = cc in omega arith)
 delivered_piece (Xudt c h) o g e = (c, h, refl, segmented_piece (segmentation_found o) g e)
-delivered_piece (Xudts c h) o g e = absurd (let z : ◌≡◌ {A = ℕ} 0 1 = cc in omega arith)
+delivered_piece _ o g e = cc
 
 segmented_as_is : (o : Option Segmentation) (g : Segmentation) (f : Bool) (r : ℕ) → o ≡ Some g → g.first ≡ f → g.remaining ≡ r
     → o ≡ Some (record { first = f; class = g.class; remaining = r; reference = g.reference })
@@ -63,7 +61,7 @@ module _ (own : ℕ) (t : TablesView) (octets : List ℕ) (m : List ℕ) (f : Bo
   Reads = (w : Sender) × (m ≡ mark_of w) × Piece own t octets w f r d
 
   pub no_copy : {X : Type 0} → nothing ≡ law.piece m f r d → X
-  no_copy e = absurd (let z : ◌≡◌ {A = ℕ} 0 1 = cc in omega arith)
+  no_copy e = cc
 
   marked_reads : (p : Parsed) (s : ℕ) (g : Segmentation) → parse octets ≡ Ok p → p.label.dpc ≡ own → way_for t own p.form p.called ≡ to_subsystem s
       → delivery_of p.form p.options ≡ as_piece g
@@ -119,11 +117,8 @@ module _ (own : ℕ) (t : TablesView) (octets : List ℕ) (m : List ℕ) (f : Bo
 -- a call that is felt as a piece received one
 pub felt_reads : (own : ℕ) (x : Event) (m : List ℕ) (f : Bool) (r : ℕ) (d : List ℕ) → felt own x ≡ law.piece m f r d
     → (t : TablesView) × (places : ℕ) × (octets : List ℕ) × (x ≡ receive t places octets) × Reads own t octets m f r d
-felt_reads own (send t places q) m f r d e = absurd (let z : ◌≡◌ {A = ℕ} 0 1 = cc in omega arith)
 felt_reads own (receive t places octets) m f r d e = (t, places, octets, refl, octets_read own t octets m f r d (parse octets) refl e)
-felt_reads own tick m f r d e = absurd (let z : ◌≡◌ {A = ℕ} 0 1 = cc in omega arith)
-felt_reads own (copy c room) m f r d e = absurd (let z : ◌≡◌ {A = ℕ} 0 1 = cc in omega arith)
-felt_reads own (release c) m f r d e = absurd (let z : ◌≡◌ {A = ℕ} 0 1 = cc in omega arith)
+felt_reads own _ m f r d e = cc
 
 -- A piece is felt as one, and the station takes it so.
 
@@ -178,17 +173,11 @@ module _ (own : ℕ) (t : TablesView) (octets : List ℕ) (w : Sender) (f : Bool
 told_from : (t : TablesView) (own places : ℕ) (v : View) (p : Parsed) (s z : ℕ) (r : law.Receipt) (a : law.Answer)
     → (told_outcome t own places v p (piece_told s p a)).reply ≡ from_pieces z r → s ≡ z
 told_from t own places v p s z r (law.declined n) e = absurd (subst Plain e (given_plain Unqualified p (give_back t own places Unqualified p).done).0)
-told_from t own places v p s z r (law.alone d) e = absurd (let y : ◌≡◌ {A = ℕ} 0 1 = cc in omega arith)
-told_from t own places v p s z r (law.refused c) e = absurd (subst Plain e (given_plain _ p (give_back t own places _ p).done).0)
-told_from t own places v p s z r (law.opens i) e = absurd (let y : ◌≡◌ {A = ℕ} 0 1 = cc in omega arith)
-told_from t own places v p s z r (law.restarts i) e = absurd (let y : ◌≡◌ {A = ℕ} 0 1 = cc in omega arith)
-told_from t own places v p s z r law.stray e = absurd (let y : ◌≡◌ {A = ℕ} 0 1 = cc in omega arith)
-told_from t own places v p s z r (law.breaks i) e = absurd (let y : ◌≡◌ {A = ℕ} 0 1 = cc in omega arith)
-told_from t own places v p s z r (law.holds i) e = absurd (let y : ◌≡◌ {A = ℕ} 0 1 = cc in omega arith)
-told_from t own places v p s z r (law.hands q) e = cc
 told_from t own places v p s z r (law.lapses n) e = absurd (subst Plain e (given_plain Unqualified p (give_back t own places Unqualified p).done).0)
 told_from t own places v p s z r (law.released i) e = absurd (subst Plain e (given_plain Unqualified p (give_back t own places Unqualified p).done).0)
 told_from t own places v p s z r (law.copied d) e = absurd (subst Plain e (given_plain Unqualified p (give_back t own places Unqualified p).done).0)
+told_from t own places v p s z r (law.refused c) e = absurd (subst Plain e (given_plain _ p (give_back t own places _ p).done).0)
+told_from t own places v p s z r _ e = cc
 
 subsystem_told_is : (own T : ℕ) (t : TablesView) (places : ℕ) (octets : List ℕ) (w : Sender) (f : Bool) (r : ℕ) (d : List ℕ) → Piece own t octets w f r d
     → (v : View) (s : ℕ) (q : law.Receipt) → (station_step own T v (receive t places octets)).reply ≡ from_pieces s q → w.subsystem ≡ s
