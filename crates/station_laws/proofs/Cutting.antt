@@ -1,7 +1,7 @@
 -- What a call that answers "sent in pieces" has put on the line.
-use Rattle.std.proofs.Common.{◌≡◌, ℕ, zero, suc, ◌+◌, ◌-◌, ◌*◌, ◌/◌, ◌%◌, ◌<◌, ◌≤◌, Bool, true, false, cond, ◌&&◌, eqb, ltb, leb, List, [], ◌∷◌, ◌++◌, length, take, drop, Some, None, Ok, Option, sym, refl, ap, ◌∙◌, subst, append_assoc, one-mul, arith}
+use Rattle.std.proofs.Common.{◌≡◌, ℕ, zero, suc, ◌+◌, ◌-◌, ◌*◌, ◌/◌, ◌%◌, ◌<◌, ◌≤◌, Bool, true, false, cond, ◌&&◌, leb, List, [], ◌∷◌, ◌++◌, length, take, drop, Some, Ok, sym, refl, ap, ◌∙◌, subst, append_assoc, one-mul, arith}
 use Rattle.std.proofs.lemmas.List.{take-append-drop, length-take-le, length-drop}
-use Rattle.std.proofs.lemmas.Bool.{and_parts, or_left, leb-true, ltb-true, le-leb, lt-leb, cond_both}
+use Rattle.std.proofs.lemmas.Bool.{and_parts, or_left, leb-true, le-leb, lt-leb}
 use Rattle.address.specs.Address.{address_ok, code_of}
 use Rattle.address.proofs.Rewrites.{good_parts}
 use Rattle.message.specs.declared.messages.Form.TheVariants.{Xudt}
@@ -11,15 +11,14 @@ use Rattle.writing.specs.RoundTrip.{form_ok, scanned, segmented_by, IsMessage}
 use Rattle.writing.proofs.Back.{written_reads_back}
 use Rattle.pieces.specs.Pieces.{in_one, in_piece, piece_count, in_range, sendable, count_answer}
 use Rattle.pieces.proofs.Cuts.{enough, short}
-use Rattle.timed_table.specs.Table.{last_from, is_free}
 use Rattle.routing.specs.Meanings.{TablesView}
-use Rattle.routing.specs.Targets.{TargetView, at_home, away, no_target, target_for}
 use Rattle.outgoing.specs.Returns.{calling_for}
 use Rattle.outgoing.specs.Units.{Heading, selection, class_octet, segmentation_part, piece_message, piece_messages}
-use Rattle.station_laws.specs.Station.{View, Reply, declined, sent_pieces, Outcome, Request, quiet, check, heading_of, next, in_pieces, by_count, send_to, unit_length, sends, send}
+use Rattle.station_laws.specs.Station.{View, Reply, sent_pieces, Outcome, Request, heading_of, next, send}
 use Rattle.station_laws.specs.Uses.{Use, after, outcome}
 use Rattle.station_laws.specs.Laws.{SentPiece, Carried, begins, continues, UnitSent, SentInPieces}
 use Rattle.station_laws.proofs.Addresses.{Good, good_target, good_calling}
+use Rattle.station_laws.proofs.Calls.{Asked, messages_of, Sending, pieces, sending}
 
 -- One piece reads back.
 
@@ -198,27 +197,14 @@ abbrev Says : ℕ → Request → List (List ℕ) → Reply → Type 0
 Says own q xs (sent_pieces c n r l) = c < 16384 → UnitSent own c n r l q xs
 Says own q xs _ = Unit {0}
 
-abbrev Fine : ℕ → Request → Outcome → Type 0
-Fine own q o = Says own q o.sent o.reply
-
-fine_check : (own : ℕ) (q : Request) (b : Bool) (n : ℕ) (v : View) (x : Outcome) → (b ≡ true → Fine own q x) → Fine own q (check b n v x)
-fine_check own q b n v x f = cond_both b x (quiet v (declined n)) (Fine own q) f (λ e. tt)
-
--- what the checks of a call leave
-record Asked (own : ℕ) (q : Request) : Type 0 where
-  pub own_fits : own < 16384
-  pub calling : address_ok q.calling ≡ true
-  pub size : length q.contents ≤ 3952
-  pub class : q.class < 2
-
-unit_sent : (own code : ℕ) (called : List ℕ) (q : Request) (n r : ℕ) → Asked own q → address_ok called ≡ true → n < 16777216
-    → suc (suc r) ≡ count_answer (length called) (length (calling_for own called q.calling)) (length q.contents) → code < 16384
+unit_sent : (own code : ℕ) (called : List ℕ) (q : Request) (n r : ℕ) → own < 16384 → Asked q → address_ok called ≡ true → n < 16777216
+    → suc (suc r) ≡ messages_of own code called q → code < 16384
     → UnitSent own code (suc (suc r)) n (selection 1 q.sequence) q (piece_messages (heading_of own code called q) n (long (heading_of own code called q)) true (suc r) q.contents)
-unit_sent own code called q n r asked good k e l =
+unit_sent own code called q n r fits asked good k e l =
     let h = heading_of own code called q in
     let calling = calling_for own called q.calling in
-    let ok = good_calling own called q.calling asked.own_fits asked.calling in
-    let proper : Proper h = record { code = l; own = asked.own_fits; called = good; calling = ok; class = asked.class } in
+    let ok = good_calling own called q.calling fits asked.calling in
+    let proper : Proper h = record { code = l; own = fits; called = good; calling = ok; class = asked.class } in
     let a = good_parts called good in
     let b = good_parts calling ok in
     let a1 = a.1 in
@@ -250,38 +236,12 @@ unit_sent own code called q n r asked good k e l =
       size = num.small;
     }
 
-fine_pieces : (own code : ℕ) (called : List ℕ) (places : ℕ) (v : View) (q : Request) (r : ℕ) (o : Option ℕ) → Asked own q → address_ok called ≡ true
-    → suc (suc r) ≡ count_answer (length called) (length (calling_for own called q.calling)) (length q.contents)
-    → Fine own q (in_pieces places v (heading_of own code called q) q.contents (suc r) o)
-fine_pieces own code called places v q r None asked good e = tt
-fine_pieces own code called places v q r (Some i) asked good e =
-    cond_both (ltb places (suc (suc r))) _ _ (Fine own q) (λ b. tt) (λ b. λ l. unit_sent own code called q (next v.last) r asked good (omega arith) e l)
-
-fine_count : (own code : ℕ) (called : List ℕ) (places : ℕ) (v : View) (q : Request) (n : ℕ) → Asked own q → address_ok called ≡ true
-    → n ≡ count_answer (length called) (length (calling_for own called q.calling)) (length q.contents)
-    → Fine own q (by_count places v (heading_of own code called q) q.contents n)
-fine_count own code called places v q zero asked good e = tt
-fine_count own code called places v q (suc zero) asked good e = cond_both (eqb places 0) _ _ (Fine own q) (λ b. tt) (λ b. tt)
-fine_count own code called places v q (suc (suc r)) asked good e = fine_pieces own code called places v q r (last_from is_free 0 None v.frozen) asked good e
-
-fine_to : (own places : ℕ) (v : View) (q : Request) (t : TargetView) → Asked own q → Good t → Fine own q (send_to own places v q t)
-fine_to own places v q (at_home s) asked good = tt
-fine_to own places v q (away code called) asked good =
-    fine_count own code called places v q (count_answer (length called) (length (calling_for own called q.calling)) (length q.contents)) asked good refl
-fine_to own places v q (no_target c) asked good = tt
-
-fine_send : (t : TablesView) (own places : ℕ) (v : View) (q : Request) → own < 16384 → Fine own q (sends t own places v q)
-fine_send t own places v q l =
-    fine_check own q (address_ok q.called) 31 v _ (λ a.
-    fine_check own q (address_ok q.calling) 32 v _ (λ b.
-    fine_check own q (unit_length (length q.contents)) 33 v _ (λ c.
-    fine_check own q (ltb q.class 2) 34 v _ (λ d.
-    let m = and_parts (leb 1 (length q.contents)) (leb (length q.contents) 3952) c in
-    fine_to own places v q (target_for t own (code_of q.called) q.called)
-    (record { own_fits = l; calling = b; size = leb-true (length q.contents) 3952 m.1; class = ltb-true q.class 2 d })
-    (good_target t own (code_of q.called) q.called)))))
+said : (t : TablesView) (own places : ℕ) (v : View) (q : Request) (o : Outcome) → own < 16384 → Sending t own places v q o → Says own q o.sent o.reply
+said t own places v q o l (pieces code called r i asked k e f) = λ c.
+    unit_sent own code called q (next v.last) r l asked (subst Good k (good_target t own (code_of q.called) q.called)) (omega arith) e c
+said t own places v q o l _ = tt
 
 pub sent_in_pieces : (u : Use) → SentInPieces u
 sent_in_pieces u h t places q code count reference sls a b e =
     let o = outcome u h (send t places q) in
-    subst (Says u.code q o.sent) e (fine_send t u.code places (after u h) q a) b
+    subst (Says u.code q o.sent) e (said t u.code places (after u h) q o a (sending t u.code places (after u h) q)) b

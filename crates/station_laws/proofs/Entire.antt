@@ -9,8 +9,9 @@ use Rattle.slot_laws.proofs.Arrive as arrive
 use Rattle.station_laws.specs.Station.{View, from_pieces, by_slots, Outcome, piece_told, told_outcome, Event, receive, copy}
 use Rattle.station_laws.specs.Uses.{Use, after, outcome, Sender, Piece, Unreleased, Apart, Coming, begins, between, continues}
 use Rattle.station_laws.specs.Laws.{ArrivesEntire}
-use Rattle.station_laws.proofs.Project.{felt, slotly, project, slots_agree, ticks_agree}
+use Rattle.station_laws.proofs.Project.{slotly, project, slots_agree, ticks_agree}
 use Rattle.station_laws.proofs.Sender.{mark_of, same_sender, felt_reads, piece_felt, piece_taken, unreleased_felt}
+use Rattle.station_laws.proofs.Calls.{felt}
 
 -- what the slots feel of a call that brings no piece of the sender
 not_felt : (own : ℕ) (w : Sender) (e : Event) → Apart own w e → (x : law.Event) → felt own e ≡ x → laws.NotOf (mark_of w) x

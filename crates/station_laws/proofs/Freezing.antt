@@ -1,11 +1,8 @@
 -- Why two units that are sent in pieces within 30 ticks never share a reference: each still holds an entry, and there are at most 64.
-use Rattle.std.proofs.Common.{◌≡◌, ℕ, zero, suc, ◌+◌, ◌-◌, ◌*◌, ◌/◌, ◌<◌, ◌≤◌, Bool, true, false, cond, eqb, ltb, leb, ◌⊎◌, List, [], ◌∷◌, ◌++◌, map, length, set, Some, None, Ok, Err, Option, Result, sym, refl, ap, ◌∙◌, subst, inl, inr, arith}
+use Rattle.std.proofs.Common.{◌≡◌, ℕ, suc, ◌+◌, ◌-◌, ◌*◌, ◌/◌, ◌<◌, ◌≤◌, Bool, true, false, cond, eqb, ltb, leb, ◌⊎◌, List, [], ◌∷◌, ◌++◌, map, length, set, Some, None, Option, sym, refl, ap, ◌∙◌, subst, inl, inr, arith}
 use Rattle.std.proofs.lemmas.List.{length-set, length-map, length-replicate}
-use Rattle.std.proofs.lemmas.Bool.{le-leb, lt-leb, ltb-true, ltb-false, cond_both}
-use Rattle.address.specs.Address.{address_ok, code_of}
-use Rattle.message.specs.declared.faults.ReadFault.{ReadFault}
-use Rattle.message.specs.Read.{Parsed, parse}
-use Rattle.pieces.specs.Pieces.{count_answer}
+use Rattle.std.proofs.lemmas.Bool.{le-leb, lt-leb, ltb-true, ltb-false}
+use Rattle.message.specs.Read.{Parsed}
 use Rattle.slot_laws.specs.Machine as law
 use Rattle.timed_table.specs.declared.entry.Entry.{Entry}
 use Rattle.timed_table.specs.declared.entry.Entry.TheVariants.{Free, Timed, Held}
@@ -14,18 +11,13 @@ use Rattle.timed_table.specs.Table.{last_from, is_free, ticked}
 use Rattle.translation.specs.declared.causes.Cause.{Cause}
 use Rattle.translation.specs.declared.causes.Cause.TheVariants.{Unqualified, NetworkCongestion, NoReassembly}
 use Rattle.routing.specs.Meanings.{TablesView}
-use Rattle.routing.specs.Ways.{WayView, to_subsystem, onward, nowhere, way_for}
-use Rattle.routing.specs.Deliveries.{DeliveryView, as_unit, as_notice, as_piece, delivery_of}
-use Rattle.routing.specs.Targets.{TargetView, at_home, away, no_target, target_for}
 use Rattle.outgoing.specs.declared.returning.Givenback.{Givenback}
 use Rattle.outgoing.specs.declared.returning.Givenback.TheVariants.{Returned}
-use Rattle.outgoing.specs.Puts.{put_outcome}
-use Rattle.outgoing.specs.Addressed.{message_passed_on}
 use Rattle.outgoing.specs.Returns.{give_back}
-use Rattle.outgoing.specs.Units.{Heading}
-use Rattle.station_laws.specs.Station.{View, with_slots, Reply, declined, sent_pieces, Outcome, quiet, given_outcome, caused, piece_told, told_outcome, piece_of, unmarked, brought, passing, routed_by, received, Request, check, heading_of, next, in_pieces, by_count, send_to, unit_length, sends, Event, send, receive, tick, copy, release, station_step}
+use Rattle.station_laws.specs.Station.{View, with_slots, Reply, sent_pieces, Outcome, given_outcome, caused, piece_told, told_outcome, piece_of, Request, next, Event, send, receive, tick, copy, release, station_step}
 use Rattle.station_laws.specs.Uses.{Use, after, outcome, is_tick, tick_count}
 use Rattle.station_laws.specs.Laws.{NeverShared}
+use Rattle.station_laws.proofs.Calls.{Sending, pieces, sending, Taking, back, piece, taking}
 
 -- What a call does to the entries and the last reference.
 
@@ -62,63 +54,19 @@ still_piece t own places v ss s p (law.copied d) = still_caused t own places v (
 still_piece t own places v ss s p (law.refused c) = still_caused t own places v (with_slots v ss) p (cond (eqb c 10) NoReassembly NetworkCongestion) refl refl
 still_piece t own places v ss s p _ = (refl, refl, refl)
 
-still_brought : (t : TablesView) (own T places : ℕ) (v : View) (s : ℕ) (p : Parsed) (d : DeliveryView) → Still v (brought t own T places v s p d)
-still_brought t own T places v s p as_unit = (refl, refl, refl)
-still_brought t own T places v s p as_notice = (refl, refl, refl)
-still_brought t own T places v s p (as_piece g) =
-    let st = law.step own T v.slots (piece_of s p g) in
-    cond_both (unmarked p) _ _ (Still v) (λ b. still_caused t own places v v p Unqualified refl refl) (λ b. still_piece t own places v st.0 s p st.1)
+still_taken : (own : ℕ) (t : TablesView) (octets : List ℕ) (T places : ℕ) (v : View) (x : law.Event) (o : Outcome) → Taking own t octets T places v x o → Still v o
+still_taken own t octets T places v x o (piece p s g k1 k2 k3 k4 k5) =
+    let st = law.step own T v.slots (piece_of s p g) in still_piece t own places v st.0 s p st.1
+still_taken own t octets T places v x o (back p c) = still_caused t own places v v p c refl refl
+still_taken own t octets T places v x o _ = (refl, refl, refl)
 
-still_passing : (t : TablesView) (own places : ℕ) (v : View) (p : Parsed) (code : ℕ) (q : Parsed) (r : Result (Unit {0}) Cause) → Still v (passing t own places v p code q r)
-still_passing t own places v p code q (Ok x) = (refl, refl, refl)
-still_passing t own places v p code q (Err c) = still_caused t own places v v p c refl refl
-
-still_routed : (t : TablesView) (own T places : ℕ) (v : View) (p : Parsed) (w : WayView) → Still v (routed_by t own T places v p w)
-still_routed t own T places v p (to_subsystem s) = still_brought t own T places v s p (delivery_of p.form p.options)
-still_routed t own T places v p (onward code f called) =
-    let q = message_passed_on own code f called p in still_passing t own places v p code q (put_outcome places q)
-still_routed t own T places v p (nowhere c) = still_caused t own places v v p c refl refl
-
-still_received : (t : TablesView) (own T places : ℕ) (v : View) (r : Result Parsed ReadFault) → Still v (received t own T places v r)
-still_received t own T places v (Ok p) =
-    let w = way_for t own p.form p.called in
-    cond_both (eqb p.label.dpc own) _ _ (Still v) (λ b. still_routed t own T places v p w) (λ b. (refl, refl, refl))
-still_received t own T places v (Err e) = (refl, refl, refl)
-
-move_cond : (v : View) (b : Bool) (x y : Outcome) → Move v 0 x → Move v 0 y → Move v 0 (cond b x y)
-move_cond v true x y p q = p
-move_cond v false x y p q = q
-
-move_check : (v : View) (b : Bool) (n : ℕ) (x : Outcome) → Move v 0 x → Move v 0 (check b n v x)
-move_check v b n x p = move_cond v b x (quiet v (declined n)) p (still refl (refl, refl, refl))
-
-move_pieces : (places : ℕ) (v : View) (h : Heading) (d : List ℕ) (r : ℕ) (o : Option ℕ) → last_from is_free 0 None v.frozen ≡ o → Move v 0 (in_pieces places v h d r o)
-move_pieces places v h d r None e = still refl (refl, refl, refl)
-move_pieces places v h d r (Some i) e = move_cond v (ltb places (suc r)) _ _ (still refl (refl, refl, refl)) (took refl i e refl refl refl)
-
-move_count : (places : ℕ) (v : View) (h : Heading) (d : List ℕ) (n : ℕ) → Move v 0 (by_count places v h d n)
-move_count places v h d zero = still refl (refl, refl, refl)
-move_count places v h d (suc zero) = move_cond v (eqb places 0) _ _ (still refl (refl, refl, refl)) (still refl (refl, refl, refl))
-move_count places v h d (suc (suc r)) = move_pieces places v h d (suc r) (last_from is_free 0 None v.frozen) refl
-
-move_to : (own places : ℕ) (v : View) (q : Request) (t : TargetView) → Move v 0 (send_to own places v q t)
-move_to own places v q (at_home s) = still refl (refl, refl, refl)
-move_to own places v q (away code called) =
-    let h = heading_of own code called q in
-    move_count places v h q.contents (count_answer (length h.called) (length h.calling) (length q.contents))
-move_to own places v q (no_target c) = still refl (refl, refl, refl)
-
-move_send : (t : TablesView) (own places : ℕ) (v : View) (q : Request) → Move v 0 (sends t own places v q)
-move_send t own places v q =
-    move_check v (address_ok q.called) 31 _
-    (move_check v (address_ok q.calling) 32 _
-    (move_check v (unit_length (length q.contents)) 33 _
-    (move_check v (ltb q.class 2) 34 _
-    (move_to own places v q (target_for t own (code_of q.called) q.called)))))
+move_sent : (t : TablesView) (own places : ℕ) (v : View) (q : Request) (o : Outcome) → Sending t own places v q o → Move v 0 o
+move_sent t own places v q o (pieces code called r i a k m e) = took refl i e refl refl refl
+move_sent t own places v q o _ = still refl (refl, refl, refl)
 
 moves : (own T : ℕ) (v : View) (e : Event) → Move v (is_tick e) (station_step own T v e)
-moves own T v (send t places q) = move_send t own places v q
-moves own T v (receive t places octets) = still refl (still_received t own T places v (parse octets))
+moves own T v (send t places q) = move_sent t own places v q _ (sending t own places v q)
+moves own T v (receive t places octets) = still refl (still_taken own t octets T places v _ _ (taking own t octets T places v))
 moves own T v tick = older refl refl refl refl
 moves own T v (copy r room) = still refl (refl, refl, refl)
 moves own T v (release r) = still refl (refl, refl, refl)

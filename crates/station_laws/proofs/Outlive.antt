@@ -7,7 +7,8 @@ use Rattle.slot_laws.proofs.Time as time
 use Rattle.station_laws.specs.Station.{Event, tick}
 use Rattle.station_laws.specs.Uses.{Use, outcome}
 use Rattle.station_laws.specs.Laws.{Ends, handed, broken, restarted, lapsed, Over, now_over, before, Opens, NoOpeningOutlives}
-use Rattle.station_laws.proofs.Project.{felt, slotly, project, slots_agree, replies_agree, says_hands, says_by, by_said, ticks_agree, felt_tick}
+use Rattle.station_laws.proofs.Project.{slotly, project, slots_agree, replies_agree, says_hands, says_by, by_said, ticks_agree, felt_tick}
+use Rattle.station_laws.proofs.Calls.{felt}
 
 -- what ends an opening of the slots ends it at the station
 ends_felt : (u : Use) (h : List Event) (i : ℕ) (e : Event) (y : law.Event) → felt u.code e ≡ y

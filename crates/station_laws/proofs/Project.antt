@@ -1,65 +1,20 @@
 -- A station's history, as its slots feel it: each call is to the slots a piece, a tick, a copy or a release, and what the station answers follows what they answer.
-use Rattle.std.proofs.Common.{◌≡◌, ℕ, zero, suc, Bool, true, false, cond, eqb, ltb, leb, List, [], ◌∷◌, map, length, Some, None, Ok, Err, Option, Result, sym, refl, ap, ◌∙◌, subst, arith}
+use Rattle.std.proofs.Common.{◌≡◌, ℕ, zero, suc, Bool, true, false, leb, List, [], ◌∷◌, map, length, Some, None, Option, sym, refl, ap, ◌∙◌, subst, arith}
 use Rattle.std.proofs.lemmas.Bool.{false≢true}
-use Rattle.address.specs.Address.{address_ok, code_of}
-use Rattle.message.specs.declared.faults.ReadFault.{ReadFault}
-use Rattle.message.specs.declared.parts_of_options.Segmentation.{Segmentation}
-use Rattle.message.specs.Read.{Parsed, parse}
-use Rattle.pieces.specs.Pieces.{count_answer}
-use Rattle.timed_table.specs.Table.{last_from, is_free}
+use Rattle.message.specs.Read.{Parsed}
 use Rattle.translation.specs.declared.causes.Cause.{Cause}
 use Rattle.translation.specs.declared.causes.Cause.TheVariants.{Unqualified}
 use Rattle.routing.specs.Meanings.{TablesView}
-use Rattle.routing.specs.Ways.{WayView, to_subsystem, onward, nowhere, way_for}
-use Rattle.routing.specs.Deliveries.{DeliveryView, as_unit, as_notice, as_piece, delivery_of}
-use Rattle.routing.specs.Targets.{TargetView, at_home, away, no_target, target_for}
 use Rattle.outgoing.specs.declared.returning.Givenback.{Givenback}
 use Rattle.outgoing.specs.declared.returning.Givenback.TheVariants.{Returned}
-use Rattle.outgoing.specs.Puts.{put_outcome}
-use Rattle.outgoing.specs.Addressed.{message_passed_on}
 use Rattle.outgoing.specs.Returns.{give_back}
-use Rattle.outgoing.specs.Units.{Heading}
 use Rattle.slot_laws.specs.Machine as law
 use Rattle.slot_laws.specs.Uses as laws
 use Rattle.slot_laws.proofs.Conserve as conserve
-use Rattle.station_laws.specs.Station.{View, with_slots, Reply, declined, unread, no_way, handed_up, notice, from_pieces, by_slots, sent_here, sent_one, sent_pieces, Outcome, quiet, given_reply, caused, piece_told, told_outcome, piece_of, unmarked, brought, passing, routed_by, received, Request, check, heading_of, in_pieces, by_count, goes_out, send_to, unit_length, sends, Event, send, receive, tick, copy, release, slot_call, station_step}
+use Rattle.station_laws.specs.Station.{View, with_slots, Reply, handed_up, from_pieces, by_slots, Outcome, quiet, given_reply, caused, piece_told, told_outcome, piece_of, Request, Event, send, receive, tick, copy, release, slot_call, station_step}
 use Rattle.station_laws.specs.Uses.{Use, after, outcome, is_tick, tick_count}
 use Rattle.station_laws.specs.Laws.{refuses, counted, total, Account, declines, DeclinedAltersNothing}
-
--- How the slots feel a call.
-
--- a call that touches no slot is as a copy into no room
-abbrev pub nothing : law.Event
-nothing = law.copy (record { code = 0; slot = 0; size = 0 }) 0
-
-abbrev pub felt_marked : ℕ → Parsed → Segmentation → Bool → law.Event
-felt_marked s p g true = nothing
-felt_marked s p g false = piece_of s p g
-
-abbrev pub felt_as : ℕ → Parsed → DeliveryView → law.Event
-felt_as s p as_unit = nothing
-felt_as s p as_notice = nothing
-felt_as s p (as_piece g) = felt_marked s p g (unmarked p)
-
-abbrev pub felt_way : Parsed → WayView → law.Event
-felt_way p (to_subsystem s) = felt_as s p (delivery_of p.form p.options)
-felt_way p (onward code f called) = nothing
-felt_way p (nowhere c) = nothing
-
-abbrev pub felt_read : ℕ → TablesView → Parsed → Bool → law.Event
-felt_read own t p true = felt_way p (way_for t own p.form p.called)
-felt_read own t p false = nothing
-
-abbrev pub felt_octets : ℕ → TablesView → Result Parsed ReadFault → law.Event
-felt_octets own t (Ok p) = felt_read own t p (eqb p.label.dpc own)
-felt_octets own t (Err e) = nothing
-
-abbrev pub felt : ℕ → Event → law.Event
-felt own (send t places q) = nothing
-felt own (receive t places octets) = felt_octets own t (parse octets)
-felt own tick = law.tick
-felt own (copy r room) = law.copy r room
-felt own (release r) = law.release r
+use Rattle.station_laws.proofs.Calls.{just_opened, nothing, felt, Sending, one, pieces, sending, Taking, foreign, passed, back, piece, taking}
 
 -- How a reply follows an answer of the slots.
 
@@ -134,51 +89,11 @@ caused_aside t own places v p c = record {
   idle = λ e. given_idle c p (give_back t own places c p).done e;
 }
 
-quiet_aside : (v : View) (r : Reply) → Plain r → Aside v (quiet v r)
-quiet_aside v r k = record { slots = refl; plain = k; idle = λ e. (refl, refl) }
-
-passing_aside : (t : TablesView) (own places : ℕ) (v : View) (p : Parsed) (code : ℕ) (q : Parsed) (r : Result (Unit {0}) Cause) → Aside v (passing t own places v p code q r)
-passing_aside t own places v p code q (Ok _) = record { slots = refl; plain = tt; idle = λ e. absurd (false≢true e) }
-passing_aside t own places v p code q (Err c) = caused_aside t own places v p c
-
 -- sending
-pieces_aside : (v w : View) (c m n l : ℕ) (sent : List (List ℕ)) (b : Bool) → w.slots ≡ v.slots
-    → Aside v (cond b (quiet v (declined 38)) (record { after = w; reply = sent_pieces c m n l; sent = sent }))
-pieces_aside v w c m n l sent true e = quiet_aside v (declined 38) tt
-pieces_aside v w c m n l sent false e = record { slots = e; plain = tt; idle = λ z. absurd (false≢true z) }
-
-in_pieces_aside : (places : ℕ) (v : View) (h : Heading) (d : List ℕ) (r : ℕ) (o : Option ℕ) → Aside v (in_pieces places v h d r o)
-in_pieces_aside places v h d r None = quiet_aside v (declined 37) tt
-in_pieces_aside places v h d r (Some i) = pieces_aside v _ _ _ _ _ _ (ltb places (suc r)) refl
-
-one_aside : (v : View) (c l : ℕ) (sent : List (List ℕ)) (b : Bool) → Aside v (cond b (quiet v (declined 38)) (record { after = v; reply = sent_one c l; sent = sent }))
-one_aside v c l sent true = quiet_aside v (declined 38) tt
-one_aside v c l sent false = record { slots = refl; plain = tt; idle = λ z. absurd (false≢true z) }
-
-count_aside : (places : ℕ) (v : View) (h : Heading) (d : List ℕ) (n : ℕ) → Aside v (by_count places v h d n)
-count_aside places v h d zero = quiet_aside v (declined 36) tt
-count_aside places v h d (suc zero) = one_aside v _ _ _ (eqb places 0)
-count_aside places v h d (suc (suc r)) = in_pieces_aside places v h d (suc r) (last_from is_free 0 None v.frozen)
-
-out_aside : (places : ℕ) (v : View) (h : Heading) (d : List ℕ) → Aside v (goes_out places v h d)
-out_aside places v h d = count_aside places v h d (count_answer (length h.called) (length h.calling) (length d))
-
-to_aside : (own places : ℕ) (v : View) (q : Request) (w : TargetView) → Aside v (send_to own places v q w)
-to_aside own places v q (at_home s) = quiet_aside v (sent_here s q.contents) tt
-to_aside own places v q (away code called) = out_aside places v (heading_of own code called q) q.contents
-to_aside own places v q (no_target c) = quiet_aside v (no_way 35 c) tt
-
-check_aside : (b : Bool) (n : ℕ) (v : View) (k : Outcome) → Aside v k → Aside v (check b n v k)
-check_aside true n v k a = a
-check_aside false n v k a = quiet_aside v (declined n) tt
-
-sends_aside : (t : TablesView) (own places : ℕ) (v : View) (q : Request) → Aside v (sends t own places v q)
-sends_aside t own places v q =
-    check_aside (address_ok q.called) 31 v _
-    (check_aside (address_ok q.calling) 32 v _
-    (check_aside (unit_length (length q.contents)) 33 v _
-    (check_aside (ltb q.class 2) 34 v _
-    (to_aside own places v q (target_for t own (code_of q.called) q.called)))))
+sends_aside : (t : TablesView) (own places : ℕ) (v : View) (q : Request) (o : Outcome) → Sending t own places v q o → Aside v o
+sends_aside t own places v q o (one code called) = record { slots = refl; plain = tt; idle = λ e. cc }
+sends_aside t own places v q o (pieces code called r i a k m e) = record { slots = refl; plain = tt; idle = λ z. cc }
+sends_aside t own places v q o _ = record { slots = refl; plain = tt; idle = λ e. (refl, refl) }
 
 -- a piece
 module _ (C T : ℕ) (ss : List law.Slot) (m : List ℕ) where
@@ -221,44 +136,23 @@ module _ (t : TablesView) (own places : ℕ) (v : View) (s : ℕ) (p : Parsed) (
 
   piece_follows : (a : law.Answer) → Piecely a → Follows v (ss, a) (told_outcome t own places (with_slots v ss) p (piece_told s p a))
   piece_follows (law.declined n) k = cause_follows Unqualified (law.declined n) tt
-  piece_follows (law.alone d) k = record { slots = refl; says = other (handed_up s p) (law.alone d) tt tt; idle = λ e. absurd (false≢true e) }
+  piece_follows (law.alone d) k = record { slots = refl; says = other (handed_up s p) (law.alone d) tt tt; idle = λ e. cc }
   piece_follows (law.refused c) k = cause_follows _ (law.refused c) tt
-  piece_follows (law.hands r) k = record { slots = refl; says = gives s r; idle = λ e. absurd (false≢true e) }
+  piece_follows (law.hands r) k = record { slots = refl; says = gives s r; idle = λ e. cc }
   piece_follows (law.lapses n) k = absurd k
   piece_follows (law.released i) k = absurd k
   piece_follows (law.copied d) k = absurd k
   piece_follows a k = slots_follow a tt refl
 
 -- receiving
-module _ (t : TablesView) (own T places : ℕ) (v : View) where
-  marked_follows : (s : ℕ) (p : Parsed) (g : Segmentation) (b : Bool)
-      → Follows v (law.step own T v.slots (felt_marked s p g b))
-      (cond b (caused t own places v p Unqualified)
-      (told_outcome t own places (with_slots v (law.step own T v.slots (piece_of s p g)).0) p (piece_told s p (law.step own T v.slots (piece_of s p g)).1)))
-  marked_follows s p g true = aside own T v _ (caused_aside t own places v p Unqualified)
-  marked_follows s p g false =
-      piece_follows t own places v s p (law.step own T v.slots (piece_of s p g)).0 (law.step own T v.slots (piece_of s p g)).1
-      (piece_piecely own T v.slots _ g.first g.remaining p.«data» (law.proper g.remaining p.«data»))
-
-  brought_follows : (s : ℕ) (p : Parsed) (d : DeliveryView) → Follows v (law.step own T v.slots (felt_as s p d)) (brought t own T places v s p d)
-  brought_follows s p as_unit = aside own T v _ (quiet_aside v (handed_up s p) tt)
-  brought_follows s p as_notice = aside own T v _ (quiet_aside v (notice s p) tt)
-  brought_follows s p (as_piece g) = marked_follows s p g (unmarked p)
-
-  way_follows : (p : Parsed) (w : WayView) → Follows v (law.step own T v.slots (felt_way p w)) (routed_by t own T places v p w)
-  way_follows p (to_subsystem s) = brought_follows s p (delivery_of p.form p.options)
-  way_follows p (onward code f called) =
-      aside own T v _ (passing_aside t own places v p code (message_passed_on own code f called p) (put_outcome places (message_passed_on own code f called p)))
-  way_follows p (nowhere c) = aside own T v _ (caused_aside t own places v p c)
-
-  read_follows : (p : Parsed) (b : Bool)
-      → Follows v (law.step own T v.slots (felt_read own t p b)) (cond b (routed_by t own T places v p (way_for t own p.form p.called)) (quiet v (declined 42)))
-  read_follows p true = way_follows p (way_for t own p.form p.called)
-  read_follows p false = aside own T v _ (quiet_aside v (declined 42) tt)
-
-  octets_follow : (o : Result Parsed ReadFault) → Follows v (law.step own T v.slots (felt_octets own t o)) (received t own T places v o)
-  octets_follow (Ok p) = read_follows p (eqb p.label.dpc own)
-  octets_follow (Err e) = aside own T v _ (quiet_aside v (unread 41 e) tt)
+takes_follow : (own : ℕ) (t : TablesView) (octets : List ℕ) (T places : ℕ) (v : View) (x : law.Event) (o : Outcome) → Taking own t octets T places v x o
+    → Follows v (law.step own T v.slots x) o
+takes_follow own t octets T places v x o (piece p s g k1 k2 k3 k4 k5) =
+    piece_follows t own places v s p (law.step own T v.slots (piece_of s p g)).0 (law.step own T v.slots (piece_of s p g)).1
+    (piece_piecely own T v.slots _ g.first g.remaining p.«data» (law.proper g.remaining p.«data»))
+takes_follow own t octets T places v x o (back p c) = aside own T v _ (caused_aside t own places v p c)
+takes_follow own t octets T places v x o (passed code m) = aside own T v _ (record { slots = refl; plain = tt; idle = λ e. cc })
+takes_follow own t octets T places v x o _ = aside own T v _ (record { slots = refl; plain = tt; idle = λ e. (refl, refl) })
 
 -- the slots' own calls
 idle_no_hand : (a : law.Answer) → Idle a → NoHand a
@@ -268,12 +162,12 @@ idle_no_hand _ k = tt
 release_follows : (v : View) (i : ℕ) (s : law.Slot) → Follows v (law.release_step v.slots i s) (slot_call v (law.release_step v.slots i s))
 release_follows v i law.free = record { slots = refl; says = tells (law.declined 51) tt; idle = λ e. (refl, refl) }
 release_follows v i (law.opened o) = record { slots = refl; says = tells (law.declined 51) tt; idle = λ e. (refl, refl) }
-release_follows v i (law.whole d) = record { slots = refl; says = tells (law.released i) tt; idle = λ e. absurd (false≢true e) }
+release_follows v i (law.whole d) = record { slots = refl; says = tells (law.released i) tt; idle = λ e. cc }
 
 pub step_follows : (own T : ℕ) (v : View) (e : Event) → Follows v (law.step own T v.slots (felt own e)) (station_step own T v e)
-step_follows own T v (send t places q) = aside own T v _ (sends_aside t own places v q)
-step_follows own T v (receive t places octets) = octets_follow t own T places v (parse octets)
-step_follows own T v tick = record { slots = refl; says = tells (law.lapses (law.lapse_count v.slots)) tt; idle = λ e. absurd (false≢true e) }
+step_follows own T v (send t places q) = aside own T v _ (sends_aside t own places v q _ (sending t own places v q))
+step_follows own T v (receive t places octets) = takes_follow own t octets T places v _ _ (taking own t octets T places v)
+step_follows own T v tick = record { slots = refl; says = tells (law.lapses (law.lapse_count v.slots)) tt; idle = λ e. cc }
 step_follows own T v (copy r room) = record { slots = refl; says = tells _ (idle_no_hand _ (copy_idle room (law.named own v.slots r))); idle = λ e. (refl, refl) }
 step_follows own T v (release r) = release_follows v r.slot (law.named own v.slots r)
 
@@ -365,31 +259,13 @@ by_said x a b (other y c p i) e = absurd (subst Plain e p)
 
 -- Ticks.
 
-marked_no_tick : (s : ℕ) (p : Parsed) (g : Segmentation) (b : Bool) → laws.is_tick (felt_marked s p g b) ≡ 0
-marked_no_tick s p g true = refl
-marked_no_tick s p g false = refl
-
-as_no_tick : (s : ℕ) (p : Parsed) (d : DeliveryView) → laws.is_tick (felt_as s p d) ≡ 0
-as_no_tick s p as_unit = refl
-as_no_tick s p as_notice = refl
-as_no_tick s p (as_piece g) = marked_no_tick s p g (unmarked p)
-
-way_no_tick : (p : Parsed) (w : WayView) → laws.is_tick (felt_way p w) ≡ 0
-way_no_tick p (to_subsystem s) = as_no_tick s p (delivery_of p.form p.options)
-way_no_tick p (onward code f called) = refl
-way_no_tick p (nowhere c) = refl
-
-read_no_tick : (own : ℕ) (t : TablesView) (p : Parsed) (b : Bool) → laws.is_tick (felt_read own t p b) ≡ 0
-read_no_tick own t p true = way_no_tick p (way_for t own p.form p.called)
-read_no_tick own t p false = refl
-
-octets_no_tick : (own : ℕ) (t : TablesView) (o : Result Parsed ReadFault) → laws.is_tick (felt_octets own t o) ≡ 0
-octets_no_tick own t (Ok p) = read_no_tick own t p (eqb p.label.dpc own)
-octets_no_tick own t (Err e) = refl
+takes_no_tick : (own : ℕ) (t : TablesView) (octets : List ℕ) (T places : ℕ) (v : View) (x : law.Event) (o : Outcome) → Taking own t octets T places v x o → laws.is_tick x ≡ 0
+takes_no_tick own t octets T places v x o foreign = refl
+takes_no_tick own t octets T places v x o _ = refl
 
 tick_agrees : (own : ℕ) (e : Event) → laws.is_tick (felt own e) ≡ is_tick e
 tick_agrees own (send t places q) = refl
-tick_agrees own (receive t places octets) = octets_no_tick own t (parse octets)
+tick_agrees own (receive t places octets) = takes_no_tick own t octets 0 places just_opened _ _ (taking own t octets 0 places _)
 tick_agrees own tick = refl
 tick_agrees own (copy r room) = refl
 tick_agrees own (release r) = refl

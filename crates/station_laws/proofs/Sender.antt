@@ -1,8 +1,7 @@
 -- One sender's data, and that a unit is kept until it is released, from the same laws of the slots.
-use Rattle.std.proofs.Common.{◌≡◌, ℕ, suc, ◌<◌, Bool, true, false, eqb, ltb, List, [], ◌∷◌, ◌++◌, map, length, get_or, Some, None, Ok, Err, Option, Result, sym, refl, ap, ◌∙◌, subst, inl, inr, arith}
+use Rattle.std.proofs.Common.{◌≡◌, ℕ, suc, ◌<◌, Bool, true, false, eqb, ltb, List, [], ◌∷◌, ◌++◌, map, length, get_or, Some, None, Option, sym, refl, ap, ◌∙◌, subst, inl, inr, arith}
 use Rattle.std.proofs.lemmas.List.{length-map, same_from_push}
-use Rattle.std.proofs.lemmas.Bool.{eqb-true, eq-eqb, ltb-false, le-ltb, or_parts, or_from, cond-true, cond-false}
-use Rattle.message.specs.declared.faults.ReadFault.{ReadFault}
+use Rattle.std.proofs.lemmas.Bool.{eq-eqb, ltb-false, le-ltb, or_parts, or_from, cond-true, cond-false}
 use Rattle.message.specs.declared.messages.Form.{Form}
 use Rattle.message.specs.declared.messages.Form.TheVariants.{Xudt}
 use Rattle.message.specs.declared.parts_of_options.Segmentation.{Segmentation}
@@ -10,8 +9,7 @@ use Rattle.message.specs.Options.{segmentation_found}
 use Rattle.message.specs.Read.{Parsed, parse}
 use Rattle.translation.specs.declared.causes.Cause.TheVariants.{Unqualified}
 use Rattle.routing.specs.Meanings.{TablesView}
-use Rattle.routing.specs.Ways.{WayView, to_subsystem, onward, nowhere, way_for}
-use Rattle.routing.specs.Deliveries.{DeliveryView, as_unit, as_notice, as_piece, segmented_as, delivery_of}
+use Rattle.routing.specs.Deliveries.{as_piece, segmented_as, delivery_of}
 use Rattle.outgoing.specs.Returns.{give_back}
 use Rattle.slot_laws.specs.Machine as law
 use Rattle.slot_laws.specs.Uses as laws
@@ -19,7 +17,8 @@ use Rattle.slot_laws.proofs.Keep as keep
 use Rattle.station_laws.specs.Station.{View, with_slots, from_pieces, by_slots, Outcome, mark, piece_told, told_outcome, piece_of, unmarked, brought, routed_by, received, Event, receive, station_step}
 use Rattle.station_laws.specs.Uses.{Use, after, At, Sender, Piece, PieceAt, Joined, first, then, HandedUp, Unreleased}
 use Rattle.station_laws.specs.Laws.{OneSender, Kept}
-use Rattle.station_laws.proofs.Project.{nothing, felt_marked, felt_as, felt_way, felt_read, felt_octets, felt, Plain, given_plain, slotly, project, slots_agree, replies_agree, says_hands, says_by, hands_said, by_said}
+use Rattle.station_laws.proofs.Project.{Plain, given_plain, slotly, project, slots_agree, replies_agree, says_hands, says_by, hands_said, by_said}
+use Rattle.station_laws.proofs.Calls.{just_opened, felt_marked, felt_as, felt_way, felt_read, felt_octets, felt, Taking, piece, taking}
 
 -- the mark of a sender
 abbrev pub mark_of : Sender → List ℕ
@@ -60,14 +59,8 @@ module _ (own : ℕ) (t : TablesView) (octets : List ℕ) (m : List ℕ) (f : Bo
   abbrev pub Reads : Type 0
   Reads = (w : Sender) × (m ≡ mark_of w) × Piece own t octets w f r d
 
-  pub no_copy : {X : Type 0} → nothing ≡ law.piece m f r d → X
-  no_copy e = cc
-
-  marked_reads : (p : Parsed) (s : ℕ) (g : Segmentation) → parse octets ≡ Ok p → p.label.dpc ≡ own → way_for t own p.form p.called ≡ to_subsystem s
-      → delivery_of p.form p.options ≡ as_piece g
-      → (b : Bool) → unmarked p ≡ b → felt_marked s p g b ≡ law.piece m f r d → Reads
-  marked_reads p s g k1 k2 k3 k4 true k5 e = no_copy e
-  marked_reads p s g k1 k2 k3 k4 false k5 e =
+  taken_reads : (T places : ℕ) (v : View) (x : law.Event) (o : Outcome) → Taking own t octets T places v x o → x ≡ law.piece m f r d → Reads
+  taken_reads T places v x o (piece p s g k1 k2 k3 k4 k5) e =
       let e1 : g.first ≡ f = cc in
       let e2 : g.remaining ≡ r = cc in
       let e3 : p.«data» ≡ d = cc in
@@ -93,31 +86,12 @@ module _ (own : ℕ) (t : TablesView) (octets : List ℕ) (m : List ℕ) (f : Bo
           short = ltb-false 32 (length p.calling) o.1;
         },
       )
-
-  as_reads : (p : Parsed) (s : ℕ) → parse octets ≡ Ok p → p.label.dpc ≡ own → way_for t own p.form p.called ≡ to_subsystem s
-      → (v : DeliveryView) → delivery_of p.form p.options ≡ v → felt_as s p v ≡ law.piece m f r d → Reads
-  as_reads p s k1 k2 k3 as_unit k4 e = no_copy e
-  as_reads p s k1 k2 k3 as_notice k4 e = no_copy e
-  as_reads p s k1 k2 k3 (as_piece g) k4 e = marked_reads p s g k1 k2 k3 k4 (unmarked p) refl e
-
-  way_reads : (p : Parsed) → parse octets ≡ Ok p → p.label.dpc ≡ own
-      → (w : WayView) → way_for t own p.form p.called ≡ w → felt_way p w ≡ law.piece m f r d → Reads
-  way_reads p k1 k2 (to_subsystem s) k3 e = as_reads p s k1 k2 k3 (delivery_of p.form p.options) refl e
-  way_reads p k1 k2 (onward code form called) k3 e = no_copy e
-  way_reads p k1 k2 (nowhere c) k3 e = no_copy e
-
-  read_reads : (p : Parsed) → parse octets ≡ Ok p → (b : Bool) → eqb p.label.dpc own ≡ b → felt_read own t p b ≡ law.piece m f r d → Reads
-  read_reads p k1 true k2 e = way_reads p k1 (eqb-true p.label.dpc own k2) (way_for t own p.form p.called) refl e
-  read_reads p k1 false k2 e = no_copy e
-
-  octets_read : (o : Result Parsed ReadFault) → parse octets ≡ o → felt_octets own t o ≡ law.piece m f r d → Reads
-  octets_read (Ok p) k e = read_reads p k (eqb p.label.dpc own) refl e
-  octets_read (Err x) k e = no_copy e
+  taken_reads T places v x o _ e = cc
 
 -- a call that is felt as a piece received one
 pub felt_reads : (own : ℕ) (x : Event) (m : List ℕ) (f : Bool) (r : ℕ) (d : List ℕ) → felt own x ≡ law.piece m f r d
     → (t : TablesView) × (places : ℕ) × (octets : List ℕ) × (x ≡ receive t places octets) × Reads own t octets m f r d
-felt_reads own (receive t places octets) m f r d e = (t, places, octets, refl, octets_read own t octets m f r d (parse octets) refl e)
+felt_reads own (receive t places octets) m f r d e = (t, places, octets, refl, taken_reads own t octets m f r d 0 places just_opened _ _ (taking own t octets 0 places _) e)
 felt_reads own _ m f r d e = cc
 
 -- A piece is felt as one, and the station takes it so.
