@@ -1,7 +1,7 @@
 -- Why two units that are sent in pieces within 30 ticks never share a reference: each still holds an entry, and there are at most 64.
-use Rattle.std.proofs.Common.{◌≡◌, ℕ, suc, ◌+◌, ◌-◌, ◌*◌, ◌/◌, ◌<◌, ◌≤◌, Bool, true, false, cond, eqb, ltb, leb, ◌⊎◌, List, [], ◌∷◌, ◌++◌, map, length, set, Some, None, Option, sym, refl, ap, ◌∙◌, subst, inl, inr, arith}
-use Rattle.std.proofs.lemmas.List.{length-set, length-map, length-replicate}
-use Rattle.std.proofs.lemmas.Bool.{le-leb, lt-leb, ltb-true, ltb-false}
+use Rattle.std.proofs.Common.{◌≡◌, ℕ, suc, ◌+◌, ◌-◌, ◌*◌, ◌/◌, ◌<◌, ◌≤◌, Bool, true, false, cond, eqb, ltb, leb, ◌⊎◌, List, [], ◌∷◌, ◌++◌, map, length, set, Some, None, Option, sym, refl, ap, ◌∙◌, subst, inl, inr, arith, get_or}
+use Rattle.std.proofs.lemmas.List.{length-set, length-map, length-replicate, append-nil}
+use Rattle.std.proofs.lemmas.Bool.{le-leb, lt-leb, ltb-true, ltb-false, cond_both}
 use Rattle.message.specs.Read.{Parsed}
 use Rattle.slot_laws.specs.Machine as law
 use Rattle.timed_table.specs.declared.entry.Entry.{Entry}
@@ -18,6 +18,8 @@ use Rattle.station_laws.specs.Station.{View, with_slots, Reply, sent_pieces, Out
 use Rattle.station_laws.specs.Uses.{Use, after, outcome, is_tick, tick_count}
 use Rattle.station_laws.specs.Laws.{NeverShared}
 use Rattle.station_laws.proofs.Calls.{Sending, pieces, sending, Taking, back, piece, taking}
+use Rattle.std.proofs.lemmas.List.Sums.{count_by-le-length, sum_by-cons, sum_by-set}
+use Rattle.std.specs.List.{count_by}
 
 -- What a call does to the entries and the last reference.
 
@@ -73,70 +75,55 @@ moves own T v (release r) = still refl (refl, refl, refl)
 
 -- Entries with at least k ticks left.
 
-abbrev one : Bool → ℕ
-one true = 1
-one false = 0
-
-abbrev left : Frozen → ℕ
-left Free = 0
-left (Timed key n load) = n
-left (Held load) = 0
+abbrev alive : ℕ → Frozen → Bool
+alive k (Timed key n load) = leb k n
+alive k _ = false
 
 abbrev live : ℕ → List Frozen → ℕ
-live k [] = 0
-live k (t ∷ ts) = one (leb k (left t)) + live k ts
+live k ts = count_by (alive k) ts
 
-one_le : (b : Bool) → one b ≤ 1
-one_le true = omega arith
-one_le false = omega arith
+abbrev one : Bool → ℕ
+one b = cond b 1 0
 
-live_le : (k : ℕ) (ts : List Frozen) → live k ts ≤ length ts
-live_le k [] = omega arith
-live_le k (t ∷ ts) = omega (arith, live_le k ts, one_le (leb k (left t)))
-
-none_left : (k : ℕ) → 1 ≤ k → leb k 0 ≡ false
-none_left k h = lt-leb k 0 (omega arith)
-
-timed_down : (k n : ℕ) (key : Reference) (load : Unit {0}) (b : Bool) → ltb 1 n ≡ b → 1 ≤ k → leb k (left (cond b (Timed key (n - 1) load) Free)) ≡ leb (k + 1) n
-timed_down k n key load true e h = let l = ltb-true 1 n e in grind (arith)
-timed_down k n key load false e h = let l = ltb-false 1 n e in none_left k h ∙ sym (lt-leb (k + 1) n (omega arith))
-
-left_down : (k : ℕ) (t : Frozen) → 1 ≤ k → leb k (left (ticked t)) ≡ leb (k + 1) (left t)
-left_down k Free h = none_left k h ∙ sym (lt-leb (k + 1) 0 (omega arith))
-left_down k (Timed key n load) h = timed_down k n key load (ltb 1 n) refl h
-left_down k (Held load) h = none_left k h ∙ sym (lt-leb (k + 1) 0 (omega arith))
+alive_down : (k : ℕ) (t : Frozen) → 1 ≤ k → alive k (ticked t) ≡ alive (k + 1) t
+alive_down k (Timed key n load) h =
+    cond_both (ltb 1 n) _ _ (λ e. alive k e ≡ leb (k + 1) n)
+    (λ e. let l = ltb-true 1 n e in grind (arith))
+    (λ e. let l = ltb-false 1 n e in sym (lt-leb (k + 1) n (omega arith)))
+alive_down k _ h = refl
 
 live_down : (k : ℕ) (ts : List Frozen) → 1 ≤ k → live k (map ticked ts) ≡ live (k + 1) ts
 live_down k [] h = refl
-live_down k (t ∷ ts) h = omega (arith, ap one (left_down k t h), live_down k ts h)
+live_down k (t ∷ ts) h =
+    omega (
+      arith,
+      sum_by-cons (λ e. one (alive k e)) (ticked t) (map ticked ts),
+      sum_by-cons (λ e. one (alive (k + 1) e)) t ts,
+      ap one (alive_down k t h),
+      live_down k ts h,
+    )
 
--- the entry that is taken was not live, and is
-abbrev Taken : ℕ → Frozen → ℕ → Option ℕ → List Frozen → ℕ → Type 0
-Taken k x n found ts i = (found ≡ Some i) ⊎ ((j : ℕ) × (i ≡ n + j) × (live k (set ts j x) ≡ 1 + live k ts))
+-- the entry that is taken is there, and was not live
+abbrev Taken : ℕ → ℕ → Option ℕ → List Frozen → ℕ → Type 0
+Taken k n found ts i = (found ≡ Some i) ⊎ ((j : ℕ) × (i ≡ n + j) × (j < length ts) × (alive k (get_or ts j Free) ≡ false))
 
-taken_here : (k n i : ℕ) (x t : Frozen) (ts : List Frozen) (found : Option ℕ) → 1 ≤ k → k ≤ left x → cond (is_free t) (Some n) found ≡ Some i → Taken k x n found (t ∷ ts) i
-taken_here k n i x Free ts found h l e =
-    let z : n ≡ i = cc in
-    let a : one (leb k (left x)) ≡ 1 = ap one (le-leb k (left x) l) in
-    let b : one (leb k 0) ≡ 0 = ap one (none_left k h) in
-    inr (0, omega arith, omega arith)
-taken_here k n i x (Timed key m load) ts found h l e = inl e
-taken_here k n i x (Held load) ts found h l e = inl e
+taken_on : (k n i : ℕ) (t : Frozen) (ts : List Frozen) (found : Option ℕ) → Taken k (n + 1) (cond (is_free t) (Some n) found) ts i → Taken k n found (t ∷ ts) i
+taken_on k n i Free ts found (inl e) = let z : n ≡ i = cc in inr (0, omega arith, omega arith, refl)
+taken_on k n i t ts found (inl e) = inl e
+taken_on k n i t ts found (inr (j, e, l, f)) = inr (suc j, omega arith, omega arith, f)
 
-taken_on : (k n i : ℕ) (x t : Frozen) (ts : List Frozen) (found : Option ℕ) → 1 ≤ k → k ≤ left x → Taken k x (n + 1) (cond (is_free t) (Some n) found) ts i → Taken k x n found (t ∷ ts) i
-taken_on k n i x t ts found h l (inl e) = taken_here k n i x t ts found h l e
-taken_on k n i x t ts found h l (inr (j, e, f)) = inr (suc j, omega arith, omega arith)
+taken : (k n i : ℕ) (ts : List Frozen) (found : Option ℕ) → last_from is_free n found ts ≡ Some i → Taken k n found ts i
+taken k n i [] found e = inl e
+taken k n i (t ∷ ts) found e = taken_on k n i t ts found (taken k (n + 1) i ts (cond (is_free t) (Some n) found) e)
 
-taken : (k n i : ℕ) (x : Frozen) (ts : List Frozen) (found : Option ℕ) → 1 ≤ k → k ≤ left x → last_from is_free n found ts ≡ Some i → Taken k x n found ts i
-taken k n i x [] found h l e = inl e
-taken k n i x (t ∷ ts) found h l e = taken_on k n i x t ts found h l (taken k (n + 1) i x ts (cond (is_free t) (Some n) found) h l e)
-
-live_of : (k i : ℕ) (x : Frozen) (ts : List Frozen) → Taken k x 0 None ts i → live k (set ts i x) ≡ 1 + live k ts
-live_of k i x ts (inl e) = cc
-live_of k i x ts (inr (j, e, f)) = let z : j ≡ i = omega arith in subst (λ (y : ℕ). live k (set ts y x) ≡ 1 + live k ts) z f
-
-live_take : (k i : ℕ) (x : Frozen) (ts : List Frozen) → 1 ≤ k → k ≤ left x → last_from is_free 0 None ts ≡ Some i → live k (set ts i x) ≡ 1 + live k ts
-live_take k i x ts h l e = live_of k i x ts (taken k 0 i x ts None h l e)
+-- and is live now
+live_take : (k i : ℕ) (x : Frozen) (ts : List Frozen) → alive k x ≡ true → last_from is_free 0 None ts ≡ Some i → live k (set ts i x) ≡ 1 + live k ts
+live_take k i x ts a e = elim (taken k 0 i ts None e) [
+  inl z ↦ cc
+  | inr (j, f, l, g) ↦
+      let w : j ≡ i = omega arith in
+      subst (λ (y : ℕ). live k (set ts y x) ≡ 1 + live k ts) w (omega (arith, ap one a, ap one g, sum_by-set (λ t. one (alive k t)) ts j x Free l))
+]
 
 -- how many references were given in the calls g after h
 abbrev some_one : Option ℕ → ℕ
@@ -149,13 +136,15 @@ gave u h (e ∷ g) = some_one (told (outcome u (g ++ h) e).reply) + gave u h g
 
 held_by : (n a b : ℕ) (v : View) (o : Outcome) → Move v n o → a + n < 30 → b ≤ live (30 - a) v.frozen → some_one (told o.reply) + b ≤ live (30 - (n + a)) o.after.frozen
 held_by n a b v o (still z (p, q, r)) l h =
-    let e : live (30 - (n + a)) o.after.frozen ≡ live (30 - a) v.frozen = ap (λ j. live (30 - (j + a)) o.after.frozen) z ∙ ap (live (30 - (0 + a))) p ∙ ap (λ j. live (30 - j) v.frozen) (let y : 0 + a ≡ a = omega arith in y) in
+    let y : 30 - (n + a) ≡ 30 - a = omega arith in
+    let e : live (30 - (n + a)) o.after.frozen ≡ live (30 - a) v.frozen = ap (λ j. live j o.after.frozen) y ∙ ap (live (30 - a)) p in
     let s = ap some_one r in
     omega arith
 held_by n a b v o (took z i f p q r) l h =
     let x : Frozen = Timed (record { number = next v.last }) 30 tt in
-    let e : live (30 - (n + a)) o.after.frozen ≡ live (30 - a) (set v.frozen i x) = ap (λ j. live (30 - (j + a)) o.after.frozen) z ∙ ap (live (30 - (0 + a))) p ∙ ap (λ j. live (30 - j) (set v.frozen i x)) (let y : 0 + a ≡ a = omega arith in y) in
-    let t = live_take (30 - a) i x v.frozen (omega arith) (omega arith) f in
+    let y : 30 - (n + a) ≡ 30 - a = omega arith in
+    let e : live (30 - (n + a)) o.after.frozen ≡ live (30 - a) (set v.frozen i x) = ap (λ j. live j o.after.frozen) y ∙ ap (live (30 - a)) p in
+    let t = live_take (30 - a) i x v.frozen (le-leb (30 - a) 30 (omega arith)) f in
     let s = ap some_one r in
     omega arith
 held_by n a b v o (older z p q r) l h =
@@ -201,14 +190,8 @@ counted u h (e ∷ g) l =
     let d = p.1 in
     (p.0, omega arith, p.2)
 
-small_by : (n : ℕ) (v : View) (o : Outcome) → Move v n o → v.last < 16777216 → o.after.last < 16777216
-small_by n v o (still z (p, q, r)) l = omega arith
-small_by n v o (took z i f p q r) l = omega arith
-small_by n v o (older z p q r) l = omega arith
-
 small : (u : Use) (h : List Event) → (after u h).last < 16777216
-small u [] = omega arith
-small u (e ∷ h) = small_by (is_tick e) (after u h) (outcome u h e) (moves u.code u.ticks (after u h) e) (small u h)
+small u h = subst (λ (l : List Event). (after u l).last < 16777216) (append-nil h) (counted u [] h (omega arith)).2
 
 -- a call that told a reference: it is the next, it is then the last, and an entry is taken for it
 abbrev Gave : View → Outcome → ℕ → Type 0
@@ -218,7 +201,7 @@ gave_by : (n x : ℕ) (v : View) (o : Outcome) → Move v n o → told o.reply �
 gave_by n x v o (still z (p, q, r)) e = cc
 gave_by n x v o (took z i f p q r) e =
     let y : next v.last ≡ x = cc in
-    let t = live_take 30 i (Timed (record { number = next v.last }) 30 tt) v.frozen (omega arith) (omega arith) f in
+    let t = live_take 30 i (Timed (record { number = next v.last }) 30 tt) v.frozen refl f in
     let w = ap (live 30) p in
     (sym y, q ∙ y, omega arith)
 gave_by n x v o (older z p q r) e = cc
@@ -230,11 +213,8 @@ never_shared u h g e₁ e₂ code₁ count₁ reference₁ sls₁ code₂ count�
     let p = gave_by (is_tick e₁) reference₁ v (outcome u h e₁) (moves u.code u.ticks v e₁) (ap told a) in
     let q = gave_by (is_tick e₂) reference₂ w (outcome u (g ++ (e₁ ∷ h)) e₂) (moves u.code u.ticks w e₂) (ap told b) in
     let c = counted u (e₁ ∷ h) g (small u (e₁ ∷ h)) in
-    let k = c.0 in
-    let c1 = c.1 in
-    let c2 = c.2 in
     let held = still_held u (e₁ ∷ h) g 1 p.2 near in
-    let most = live_le (30 - tick_count g) w.frozen in
+    let most = count_by-le-length (alive (30 - tick_count g)) w.frozen in
     let l = long u (g ++ (e₁ ∷ h)) in
     let p0 = p.0 in
     let p1 = p.1 in
