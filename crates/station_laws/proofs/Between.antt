@@ -104,15 +104,11 @@ between arrives cut a b h t places q count reference sls la lb e =
     let s = cut a h t places q b.code count reference sls la lb e in (
       s.calling,
       λ k g n i u room xs x same slot free taken way time.
-          let l = last_of a.code b.code sls s.called s.calling q.class reference n s.first (count - 1) s.good_calling q.contents 0 (outcome a h (send t places q)).sent xs x s.carried refl (let m = s.least in omega arith) same in
+          let l = last_of a.code b.code sls s.called s.calling q.class reference n s.first (count - 1) s.good_calling q.contents 0 (outcome a h (send t places q)).sent xs x s.carried refl (omega arith) same in
           let d = l.before in
           let c = l.piece in
           let w = sender_of a.code n s.calling reference in
           let f = l.joined in
-          let m1 = s.least in
-          let m2 = s.most in
-          let m3 = s.limit in
-          let m4 = s.size in
           let z : count - 1 + 1 ≡ count = omega arith in
           let z1 : (count - 1 + 1) * length s.first ≡ count * length s.first = ap (λ y. y * length s.first) z in
           let z2 : length q.contents ≡ length (d ++ c) = ap length f in

@@ -1,7 +1,7 @@
 -- What a call that answers "sent in pieces" has put on the line.
-use Rattle.std.proofs.Common.{◌≡◌, ℕ, zero, suc, ◌+◌, ◌-◌, ◌*◌, ◌/◌, ◌%◌, ◌<◌, ◌≤◌, Bool, true, false, cond, ◌&&◌, leb, List, [], ◌∷◌, ◌++◌, length, take, drop, Some, Ok, sym, refl, ap, ◌∙◌, subst, append_assoc, one-mul, arith}
+use Rattle.std.proofs.Common.{◌≡◌, ℕ, zero, suc, ◌+◌, ◌-◌, ◌*◌, ◌/◌, ◌%◌, ◌<◌, ◌≤◌, Bool, true, false, cond, ◌&&◌, leb, List, [], ◌∷◌, ◌++◌, length, take, drop, Some, Ok, sym, refl, ap, ◌∙◌, subst, append_assoc, one-mul, arith, inl, inr}
 use Rattle.std.proofs.lemmas.List.{take-append-drop, length-take-le, length-drop}
-use Rattle.std.proofs.lemmas.Bool.{and_parts, or_left, leb-true, le-leb, lt-leb}
+use Rattle.std.proofs.lemmas.Bool.{and_parts, or_left, leb-true, le-leb, lt-leb, cases_cond}
 use Rattle.address.specs.Address.{address_ok, code_of}
 use Rattle.address.proofs.Rewrites.{good_parts}
 use Rattle.message.specs.declared.messages.Form.TheVariants.{Xudt}
@@ -19,6 +19,7 @@ use Rattle.station_laws.specs.Uses.{Use, after, outcome}
 use Rattle.station_laws.specs.Laws.{SentPiece, Carried, begins, continues, UnitSent, SentInPieces}
 use Rattle.station_laws.proofs.Addresses.{Good, good_target, good_calling}
 use Rattle.station_laws.proofs.Calls.{Asked, messages_of, Sending, pieces, sending}
+use Rattle.outgoing.proofs.Pieces.{count}
 
 -- One piece reads back.
 
@@ -26,32 +27,15 @@ form_ok_is : (b : Bool) → form_ok (Xudt (class_octet 1 b) 15) ≡ true
 form_ok_is true = refl
 form_ok_is false = refl
 
-options_ok : (first : Bool) (class r n : ℕ) → scanned (segmentation_part first class r n) ≡ Ok (record { start = 0; end = 7; segmented = true })
-unfolding span_on
-options_ok first class r n = refl
-
-segmented_ok : (first : Bool) (class r n : ℕ) → segmented_by (segmentation_part first class r n) ≡ true
-unfolding span_on
-segmented_ok first class r n = refl
-
-first_told_is : (first : Bool) (class r : ℕ) → class < 2 → r < 16 → leb 128 (cond first 128 0 + 64 * class + r) ≡ first
-first_told_is true class r h l = le-leb 128 (128 + 64 * class + r) (omega arith)
-first_told_is false class r h l = lt-leb 128 (0 + 64 * class + r) (omega arith)
-
-class_told : (first : Bool) (class r : ℕ) → class < 2 → r < 16 → (cond first 128 0 + 64 * class + r) / 64 % 2 ≡ class
-class_told true class r h l = omega arith
-class_told false class r h l = omega arith
-
-remaining_told : (first : Bool) (class r : ℕ) → class < 2 → r < 16 → (cond first 128 0 + 64 * class + r) % 16 ≡ r
-remaining_told true class r h l = omega arith
-remaining_told false class r h l = omega arith
+head_told : (first : Bool) (class r : ℕ) → class < 2 → r < 16
+    → (leb 128 (cond first 128 0 + 64 * class + r) ≡ first) × ((cond first 128 0 + 64 * class + r) / 64 % 2 ≡ class) × ((cond first 128 0 + 64 * class + r) % 16 ≡ r)
+head_told true class r h l = (le-leb 128 (128 + 64 * class + r) (omega arith), omega arith, omega arith)
+head_told false class r h l = (lt-leb 128 (0 + 64 * class + r) (omega arith), omega arith, omega arith)
 
 found : (first : Bool) (class r n : ℕ) → class < 2 → r < 16 → n < 16777216 → segmentation_found (segmentation_part first class r n) ≡ Some (record { first = first; class = class; remaining = r; reference = n })
 unfolding segmentation_found
 found first class r n h l k =
-    let a = first_told_is first class r h l in
-    let b = class_told first class r h l in
-    let c = remaining_told first class r h l in
+    let a = head_told first class r h l in
     let d : n % 256 + 256 * (n / 256 % 256) + 65536 * (n / 65536) ≡ n = omega arith in
     cc
 
@@ -67,16 +51,15 @@ abbrev long : Heading → ℕ
 long h = in_piece (length h.called) (length h.calling)
 
 is_message : (h : Heading) (n : ℕ) (first : Bool) (r : ℕ) (d : List ℕ) → Proper h → 1 ≤ length d → IsMessage (piece_message h n first r d)
+unfolding span_on
 is_message h n first r d p some =
-    let o = segmentation_part first h.class r n in
-    let s = segmented_ok first h.class r n in
     record {
       label = (p.code, p.own, let q : h.sequence % 16 < 16 = omega arith in q);
       form = form_ok_is (h.returns && first);
       called = p.called;
       calling = or_left (address_ok h.calling) _ p.calling;
       «data» = some;
-      options = options_ok first h.class r n ∙ ap (λ (b : Bool). Ok (record { start = 0; end = 7; segmented = b })) (sym s);
+      options = refl;
       none_in_short = refl;
     }
 
@@ -85,10 +68,6 @@ sent_piece : (h : Heading) (n : ℕ) (first : Bool) (r : ℕ) (d : List ℕ) →
 sent_piece h n first r d p k l some few =
     let a = good_parts h.called p.called in
     let b = good_parts h.calling p.calling in
-    let a0 = a.0 in
-    let a1 = a.1 in
-    let b0 = b.0 in
-    let b1 = b.1 in
     record {
       message = piece_message h n first r d;
       class = class_octet 1 (h.returns && first);
@@ -121,9 +100,6 @@ carry h n d0 r0 d zero xs load p k l one more most c =
     (sent_piece h n false 0 load p k l (omega arith) (omega (arith, one-mul (long h))))
 carry h n d0 r0 d (suc r) xs load p k l one more most c =
     let m = more_than r (long h) (length load) more most in
-    let m0 = m.0 in
-    let m1 = m.1 in
-    let m2 = m.2 in
     let t : length (take (long h) load) ≡ long h = length-take-le (long h) load (omega arith) in
     let s : length (drop (long h) load) ≡ length load - long h = length-drop (long h) load in
     let x = encode (piece_message h n false (suc r) (take (long h) load)) in
@@ -138,9 +114,6 @@ all_carried : (h : Heading) (n r : ℕ) (load : List ℕ) → Proper h → n < 1
     → Goes h n (take (long h) load) (suc r) load 0 (piece_messages h n (long h) true (suc r) load)
 all_carried h n r load p k l one more most =
     let m = more_than r (long h) (length load) more most in
-    let m0 = m.0 in
-    let m1 = m.1 in
-    let m2 = m.2 in
     let t : length (take (long h) load) ≡ long h = length-take-le (long h) load (omega arith) in
     let s : length (drop (long h) load) ≡ length load - long h = length-drop (long h) load in
     let d0 = take (long h) load in
@@ -149,19 +122,11 @@ all_carried h n r load p k l one more most =
     let c2 = carry h n d0 (suc r) d0 r (x ∷ []) (drop (long h) load) p k (omega arith) one (omega arith) (omega arith) c in
     subst (λ (z : List ℕ). Goes h n d0 (suc r) z 0 (piece_messages h n (long h) true (suc r) load)) (take-append-drop (long h) load) c2
 
-how_many : (h : Heading) (n p : ℕ) (first : Bool) (r : ℕ) (load : List ℕ) → length (piece_messages h n p first r load) ≡ suc r
-how_many h n p first zero load = refl
-how_many h n p first (suc r) load = ap suc (how_many h n p false r (drop p load))
-
 -- The number of pieces.
 
 pub count_if : (k : Bool) (m n : ℕ) → m ≡ cond k n 0 → 1 ≤ m → (m ≡ n) × (k ≡ true)
 count_if true m n e h = (e, refl)
 count_if false m n e h = absurd (omega arith)
-
-more_if : (k : Bool) (m n : ℕ) → m ≡ cond k 1 n → 2 ≤ m → (m ≡ n) × (k ≡ false)
-more_if true m n e h = absurd (omega arith)
-more_if false m n e h = (e, refl)
 
 -- a unit of n octets that goes in m pieces, two or more
 pub record Number (a b n m : ℕ) : Type 0 where
@@ -176,9 +141,7 @@ number a b n m ha hb hn e two =
     let c = count_if (sendable a b n) m (piece_count a b n) e (omega arith) in
     let s = and_parts (in_range a b n) (leb (piece_count a b n) 16) c.1 in
     let p = in_piece a b in
-    let g = more_if (leb n (in_one a b)) m ((n + p - 1) / p) c.0 two in
-    let g0 = g.0 in
-    let c0 = c.0 in
+    let g0 : m ≡ (n + p - 1) / p = elim (cases_cond (leb n (in_one a b)) 1 ((n + p - 1) / p) m c.0) [ inl z ↦ absurd (omega arith) | inr z ↦ z ] in
     let u = enough n p (omega arith) in
     let w = short n p (m - 1) (omega arith) (omega arith) in
     let z : m * p ≡ (n + p - 1) / p * p = ap (λ j. j * p) g0 in
@@ -207,16 +170,11 @@ unit_sent own code called q n r fits asked good k e l =
     let proper : Proper h = record { code = l; own = fits; called = good; calling = ok; class = asked.class } in
     let a = good_parts called good in
     let b = good_parts calling ok in
-    let a1 = a.1 in
-    let b1 = b.1 in
-    let num = number (length called) (length calling) (length q.contents) (suc (suc r)) a1 b1 asked.size e (omega arith) in
-    let most = num.most in
+    let num = number (length called) (length calling) (length q.contents) (suc (suc r)) a.1 b.1 asked.size e (omega arith) in
     let e1 : suc (suc r) - 1 ≡ suc r = omega arith in
     let e2 : suc r + 1 ≡ suc (suc r) = omega arith in
     let above : suc r * long h < length q.contents = subst (λ (j : ℕ). j * long h < length q.contents) e1 num.above in
     let within : length q.contents ≤ (suc r + 1) * long h = subst (λ (j : ℕ). length q.contents ≤ j * long h) (sym e2) num.within in
-    let m = more_than r (long h) (length q.contents) above within in
-    let m0 = m.0 in
     let d0 = take (long h) q.contents in
     let t : length d0 ≡ long h = length-take-le (long h) q.contents (omega arith) in
     let c = all_carried h n r q.contents proper k (omega arith) (omega arith) above within in
@@ -227,7 +185,7 @@ unit_sent own code called q n r fits asked good k e l =
       good_called = good;
       good_calling = ok;
       carried = subst (λ (j : ℕ). Goes h n d0 j q.contents 0 (piece_messages h n (long h) true (suc r) q.contents)) (sym e1) c;
-      many = how_many h n (long h) true (suc r) q.contents;
+      many = omega (arith, count h n (long h) true (suc r) q.contents);
       fewest = num.fewest;
       least = omega arith;
       most = num.most;

@@ -216,8 +216,4 @@ never_shared u h g e₁ e₂ code₁ count₁ reference₁ sls₁ code₂ count�
     let held = still_held u (e₁ ∷ h) g 1 p.2 near in
     let most = count_by-le-length (alive (30 - tick_count g)) w.frozen in
     let l = long u (g ++ (e₁ ∷ h)) in
-    let p0 = p.0 in
-    let p1 = p.1 in
-    let q0 = q.0 in
-    let q1 = q.1 in
     omega arith

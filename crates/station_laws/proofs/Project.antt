@@ -79,14 +79,11 @@ pub given_plain : (c : Cause) (p : Parsed) (g : Givenback) → Plain (given_repl
 given_plain c p (Returned code) = (tt, refl)
 given_plain c p _ = (tt, refl)
 
-given_idle : {X : Type 0} (c : Cause) (p : Parsed) (g : Givenback) → declines (given_reply c p g) ≡ true → X
-given_idle c p g e = absurd (false≢true (sym (given_plain c p g).1 ∙ e))
-
 caused_aside : (t : TablesView) (own places : ℕ) (v : View) (p : Parsed) (c : Cause) → Aside v (caused t own places v p c)
 caused_aside t own places v p c = record {
   slots = refl;
   plain = (given_plain c p (give_back t own places c p).done).0;
-  idle = λ e. given_idle c p (give_back t own places c p).done e;
+  idle = λ e. cc (given_plain c p (give_back t own places c p).done).1;
 }
 
 -- sending
@@ -128,11 +125,11 @@ module _ (t : TablesView) (own places : ℕ) (v : View) (s : ℕ) (p : Parsed) (
   cause_follows c a k = record {
     slots = refl;
     says = other _ a (given_plain c p (give_back t own places c p).done).0 k;
-    idle = λ e. given_idle c p (give_back t own places c p).done e;
+    idle = λ e. cc (given_plain c p (give_back t own places c p).done).1;
   }
 
   slots_follow : (a : law.Answer) → NoHand a → refuses a ≡ false → Follows v (ss, a) (quiet (with_slots v ss) (by_slots a))
-  slots_follow a k r = record { slots = refl; says = tells a k; idle = λ e. absurd (false≢true (sym r ∙ e)) }
+  slots_follow a k r = record { slots = refl; says = tells a k; idle = λ e. cc }
 
   piece_follows : (a : law.Answer) → Piecely a → Follows v (ss, a) (told_outcome t own places (with_slots v ss) p (piece_told s p a))
   piece_follows (law.declined n) k = cause_follows Unqualified (law.declined n) tt
@@ -160,9 +157,8 @@ idle_no_hand (law.hands r) k = k
 idle_no_hand _ k = tt
 
 release_follows : (v : View) (i : ℕ) (s : law.Slot) → Follows v (law.release_step v.slots i s) (slot_call v (law.release_step v.slots i s))
-release_follows v i law.free = record { slots = refl; says = tells (law.declined 51) tt; idle = λ e. (refl, refl) }
-release_follows v i (law.opened o) = record { slots = refl; says = tells (law.declined 51) tt; idle = λ e. (refl, refl) }
 release_follows v i (law.whole d) = record { slots = refl; says = tells (law.released i) tt; idle = λ e. cc }
+release_follows v i _ = record { slots = refl; says = tells (law.declined 51) tt; idle = λ e. (refl, refl) }
 
 pub step_follows : (own T : ℕ) (v : View) (e : Event) → Follows v (law.step own T v.slots (felt own e)) (station_step own T v e)
 step_follows own T v (send t places q) = aside own T v _ (sends_aside t own places v q _ (sending t own places v q))
