@@ -54,9 +54,8 @@ good_translation t own a =
 
 -- where a target is another code, the address for it is good
 abbrev pub Good : TargetView → Type 0
-Good (at_home s) = Unit {0}
 Good (away c a) = address_ok a ≡ true
-Good (no_target c) = Unit {0}
+Good _ = Unit {0}
 
 good_home : (s : Option ℕ) → Good (home s)
 good_home None = tt
@@ -68,7 +67,7 @@ good_to c (Some b) h = h b refl
 
 good_goes : (e : Option Cause) (on : Bool) (c : ℕ) (a : List ℕ) → Good (goes_to e on c a)
 good_goes (Some e) on c a = tt
-good_goes None on c a = good_to c (rewritten on Keep (subsystem_of a) a) (λ b h. good_rewritten on Keep (subsystem_of a) a b h)
+good_goes None on c a = good_to c (rewritten on Keep (subsystem_of a) a) (good_rewritten on Keep (subsystem_of a) a)
 
 good_unless : (e : Option Cause) (a : List ℕ) → Good (home_unless e a)
 good_unless (Some e) a = tt

@@ -87,11 +87,6 @@ sent_piece h n first r d p k l some few =
 abbrev Goes : Heading → ℕ → List ℕ → ℕ → List ℕ → ℕ → List (List ℕ) → Type 0
 Goes h n d0 r0 d r xs = Carried h.own h.code (selection 1 h.sequence) h.called h.calling h.class n d0 r0 d r xs
 
--- where a unit is longer than r pieces and no longer than one more, so is the rest behind the first piece
-more_than : (r p n : ℕ) → suc r * p < n → n ≤ (suc r + 1) * p → (p < n) × (r * p < n - p) × (n - p ≤ (r + 1) * p)
-more_than r p n a b =
-    (omega arith, omega arith, omega arith)
-
 carry : (h : Heading) (n : ℕ) (d0 : List ℕ) (r0 : ℕ) (d : List ℕ) (r : ℕ) (xs : List (List ℕ)) (load : List ℕ) → Proper h → n < 16777216 → r < 16 → 1 ≤ long h
     → r * long h < length load → length load ≤ (r + 1) * long h
     → Goes h n d0 r0 d (suc r) xs → Goes h n d0 r0 (d ++ load) 0 (xs ++ piece_messages h n (long h) false r load)
@@ -99,28 +94,24 @@ carry h n d0 r0 d zero xs load p k l one more most c =
     continues d load 0 xs (encode (piece_message h n false 0 load)) c
     (sent_piece h n false 0 load p k l (omega arith) (omega (arith, one-mul (long h))))
 carry h n d0 r0 d (suc r) xs load p k l one more most c =
-    let m = more_than r (long h) (length load) more most in
     let t : length (take (long h) load) ≡ long h = length-take-le (long h) load (omega arith) in
     let s : length (drop (long h) load) ≡ length load - long h = length-drop (long h) load in
     let x = encode (piece_message h n false (suc r) (take (long h) load)) in
     let rest = piece_messages h n (long h) false r (drop (long h) load) in
     let c1 : Goes h n d0 r0 (d ++ take (long h) load) (suc r) (xs ++ x ∷ []) = continues d (take (long h) load) (suc r) xs x c (sent_piece h n false (suc r) (take (long h) load) p k l (omega arith) (omega arith)) in
     let c2 = carry h n d0 r0 (d ++ take (long h) load) r (xs ++ x ∷ []) (drop (long h) load) p k (omega arith) one (omega arith) (omega arith) c1 in
-    let e : (d ++ take (long h) load) ++ drop (long h) load ≡ d ++ load = append_assoc d (take (long h) load) (drop (long h) load) ∙ ap (λ z. d ++ z) (take-append-drop (long h) load) in
-    let f : (xs ++ x ∷ []) ++ rest ≡ xs ++ (x ∷ rest) = append_assoc xs (x ∷ []) rest in
-    subst (λ (z : List (List ℕ)). Goes h n d0 r0 (d ++ load) 0 z) f (subst (λ (z : List ℕ). Goes h n d0 r0 z 0 ((xs ++ x ∷ []) ++ rest)) e c2)
+    simp (append_assoc, take-append-drop) at c2
 
 all_carried : (h : Heading) (n r : ℕ) (load : List ℕ) → Proper h → n < 16777216 → suc r < 16 → 1 ≤ long h → suc r * long h < length load → length load ≤ (suc r + 1) * long h
     → Goes h n (take (long h) load) (suc r) load 0 (piece_messages h n (long h) true (suc r) load)
 all_carried h n r load p k l one more most =
-    let m = more_than r (long h) (length load) more most in
     let t : length (take (long h) load) ≡ long h = length-take-le (long h) load (omega arith) in
     let s : length (drop (long h) load) ≡ length load - long h = length-drop (long h) load in
     let d0 = take (long h) load in
     let x = encode (piece_message h n true (suc r) d0) in
     let c : Goes h n d0 (suc r) d0 (suc r) (x ∷ []) = begins x (sent_piece h n true (suc r) d0 p k l (omega arith) (omega arith)) in
     let c2 = carry h n d0 (suc r) d0 r (x ∷ []) (drop (long h) load) p k (omega arith) one (omega arith) (omega arith) c in
-    subst (λ (z : List ℕ). Goes h n d0 (suc r) z 0 (piece_messages h n (long h) true (suc r) load)) (take-append-drop (long h) load) c2
+    rw take-append-drop at c2
 
 -- The number of pieces.
 
@@ -143,12 +134,11 @@ number a b n m ha hb hn e two =
     let p = in_piece a b in
     let g0 : m ≡ (n + p - 1) / p = elim (cases_cond (leb n (in_one a b)) 1 ((n + p - 1) / p) m c.0) [ inl z ↦ absurd (omega arith) | inr z ↦ z ] in
     let u = enough n p (omega arith) in
-    let w = short n p (m - 1) (omega arith) (omega arith) in
     let z : m * p ≡ (n + p - 1) / p * p = ap (λ j. j * p) g0 in
     record {
       fewest = c.0;
       most = omega (arith, leb-true (piece_count a b n) 16 s.1);
-      above = w;
+      above = short n p (m - 1) (omega arith) (omega arith);
       within = omega arith;
       small = hn;
     }
@@ -172,9 +162,8 @@ unit_sent own code called q n r fits asked good k e l =
     let b = good_parts calling ok in
     let num = number (length called) (length calling) (length q.contents) (suc (suc r)) a.1 b.1 asked.size e (omega arith) in
     let e1 : suc (suc r) - 1 ≡ suc r = omega arith in
-    let e2 : suc r + 1 ≡ suc (suc r) = omega arith in
-    let above : suc r * long h < length q.contents = subst (λ (j : ℕ). j * long h < length q.contents) e1 num.above in
-    let within : length q.contents ≤ (suc r + 1) * long h = subst (λ (j : ℕ). length q.contents ≤ j * long h) (sym e2) num.within in
+    let above : suc r * long h < length q.contents = rw e1 at num.above in
+    let within : length q.contents ≤ (suc r + 1) * long h = omega (arith, num.within) in
     let d0 = take (long h) q.contents in
     let t : length d0 ≡ long h = length-take-le (long h) q.contents (omega arith) in
     let c = all_carried h n r q.contents proper k (omega arith) (omega arith) above within in
@@ -184,13 +173,13 @@ unit_sent own code called q n r fits asked good k e l =
       first = d0;
       good_called = good;
       good_calling = ok;
-      carried = subst (λ (j : ℕ). Goes h n d0 j q.contents 0 (piece_messages h n (long h) true (suc r) q.contents)) (sym e1) c;
+      carried = rw e1 c;
       many = omega (arith, count h n (long h) true (suc r) q.contents);
       fewest = num.fewest;
       least = omega arith;
       most = num.most;
       some = omega arith;
-      limit = subst (λ (j : ℕ). length q.contents ≤ suc (suc r) * j) (sym t) num.within;
+      limit = rw t num.within;
       size = num.small;
     }
 

@@ -52,20 +52,14 @@ module _ (u : Use) (h g : List Event) (w : Sender) (c : List ℕ) (t : TablesVie
       ∙ told_hands t u.code places _ p.message w.subsystem r _ now
 
   all : (f : List Event) → project u (f ++ (receive t places octets ∷ (g ++ h))) ≡ project u f ++ (last_piece ∷ (project u g ++ project u h))
-  all f =
-      map-append (felt u.code) f (receive t places octets ∷ (g ++ h))
-      ∙ ap (λ (x : law.Event). project u f ++ (x ∷ project u (g ++ h))) (piece_felt u.code t octets w false 0 c p)
-      ∙ ap (λ (l : List law.Event). project u f ++ (last_piece ∷ l)) both
+  all f = simp (map-append, piece_felt u.code t octets w false 0 c p)
 
   long_as : length (g ++ h) ≡ length (project u g ++ project u h)
   long_as = sym (length-map (g ++ h) (felt u.code)) ∙ ap (λ (l : List law.Event). length l) both
 
   unreleased_there : (f : List Event) (i : ℕ) → Unreleased u (f ++ (receive t places octets ∷ (g ++ h))) (length (g ++ h)) i
       → laws.Unreleased (slotly u) (project u f ++ (last_piece ∷ (project u g ++ project u h))) (length (project u g ++ project u h)) i
-  unreleased_there f i n =
-      subst (λ (k : ℕ). laws.Unreleased (slotly u) (project u f ++ (last_piece ∷ (project u g ++ project u h))) k i) long_as
-      (subst (λ (l : List law.Event). laws.Unreleased (slotly u) l (length (g ++ h)) i) (all f)
-      (unreleased_felt u (f ++ (receive t places octets ∷ (g ++ h))) (length (g ++ h)) i n))
+  unreleased_there f i n = rw (← long_as, ← all f) (unreleased_felt u (f ++ (receive t places octets ∷ (g ++ h))) (length (g ++ h)) i n)
 
   copied_here : (f : List Event) (r : law.Receipt) (room : ℕ) (x : List ℕ)
       → laws.answer_to (slotly u) (project u f ++ (last_piece ∷ (project u g ++ project u h))) (law.copy r room) ≡ law.copied x

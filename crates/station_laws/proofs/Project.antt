@@ -60,14 +60,10 @@ record Aside (v : View) (o : Outcome) : Type 0 where
   plain : Plain o.reply
   idle : declines o.reply ≡ true → (o.after ≡ v) × (o.sent ≡ [])
 
-copied_idle : (d : List ℕ) (b : Bool) → Idle (law.copied_if d b)
-copied_idle d true = tt
-copied_idle d false = tt
-
 copy_idle : (room : ℕ) (s : law.Slot) → Idle (law.copy_answer room s)
 copy_idle room law.free = tt
 copy_idle room (law.opened o) = tt
-copy_idle room (law.whole d) = copied_idle d (leb (length d) room)
+copy_idle room (law.whole d) = elim (leb (length d) room) as (λ b. Idle (law.copied_if d b)) [ true ↦ tt | false ↦ tt ]
 
 aside : (C T : ℕ) (v : View) (o : Outcome) → Aside v o → Follows v (law.step C T v.slots nothing) o
 aside C T v o k = record { slots = k.slots; says = other o.reply _ k.plain (copy_idle 0 (law.named C v.slots (record { code = 0; slot = 0; size = 0 }))); idle = k.idle }
@@ -205,10 +201,7 @@ says_counted f k x a (other y b p i) = counted_plain f y p ∙ sym (k b i)
 
 total_agree : (f : law.Answer → ℕ) → Fair f → (u : Use) (h : List Event) → total f u h ≡ laws.total f (slotly u) (project u h)
 total_agree f k u [] = refl
-total_agree f k u (e ∷ h) =
-    let now = says_counted f k _ _ (replies_agree u h e) in
-    let past = total_agree f k u h in
-    omega arith
+total_agree f k u (e ∷ h) = omega (arith, says_counted f k _ _ (replies_agree u h e), total_agree f k u h)
 
 -- what is opened, handed up, broken and lapsed
 fair : (a : law.Answer) → Idle a → (laws.counts_opened a ≡ 0) × (laws.counts_handed a ≡ 0) × (laws.counts_broken a ≡ 0) × (laws.counts_lapsed a ≡ 0)
@@ -268,10 +261,7 @@ tick_agrees own (release r) = refl
 
 pub ticks_agree : (u : Use) (g : List Event) → laws.tick_count (project u g) ≡ tick_count g
 ticks_agree u [] = refl
-ticks_agree u (e ∷ g) =
-    let now = tick_agrees u.code e in
-    let past = ticks_agree u g in
-    omega arith
+ticks_agree u (e ∷ g) = omega (arith, tick_agrees u.code e, ticks_agree u g)
 
 -- only a tick is felt as a tick
 one_tick : (e : Event) → is_tick e ≡ 1 → e ≡ tick

@@ -47,13 +47,6 @@ delivered_piece : (f : Form) (o : List ℕ) (g : Segmentation) → delivery_of f
 delivered_piece (Xudt c h) o g e = (c, h, refl, segmented_piece (segmentation_found o) g e)
 delivered_piece _ o g e = cc
 
-segmented_as_is : (o : Option Segmentation) (g : Segmentation) (f : Bool) (r : ℕ) → o ≡ Some g → g.first ≡ f → g.remaining ≡ r
-    → o ≡ Some (record { first = f; class = g.class; remaining = r; reference = g.reference })
-segmented_as_is o g f r e e1 e2 =
-    e
-    ∙ ap (λ (b : Bool). Some (record { first = b; class = g.class; remaining = g.remaining; reference = g.reference })) e1
-    ∙ ap (λ (n : ℕ). Some (record { first = f; class = g.class; remaining = n; reference = g.reference })) e2
-
 module _ (own : ℕ) (t : TablesView) (octets : List ℕ) (m : List ℕ) (f : Bool) (r : ℕ) (d : List ℕ) where
   -- a piece of some sender with this mark
   abbrev pub Reads : Type 0
@@ -77,7 +70,7 @@ module _ (own : ℕ) (t : TablesView) (octets : List ℕ) (m : List ℕ) (f : Bo
           reads = k1;
           to_us = k2;
           xudt = x.2;
-          segmented = segmented_as_is (segmentation_found p.options) g f r x.3 e1 e2;
+          segmented = rw (x.3, ← e1, ← e2);
           routed_here = k3;
           origin = refl;
           calling = refl;
@@ -106,8 +99,6 @@ module _ (own : ℕ) (t : TablesView) (octets : List ℕ) (w : Sender) (f : Bool
   well_marked : unmarked k.message ≡ false
   well_marked =
       let e = ap (λ (c : List ℕ). length c) k.calling in
-      let l = k.long in
-      let s = k.short in
       or_from (ltb (length k.message.calling) 2) (ltb 32 (length k.message.calling))
       (le-ltb (length k.message.calling) 2 (omega arith)) (le-ltb 32 (length k.message.calling) (omega arith))
 
@@ -115,20 +106,10 @@ module _ (own : ℕ) (t : TablesView) (octets : List ℕ) (w : Sender) (f : Bool
   for_us = eq-eqb k.message.label.dpc own k.to_us
 
   as_sent : piece_of w.subsystem k.message piece_head ≡ law.piece (mark_of w) f r d
-  as_sent =
-      let e1 = k.origin in
-      let e2 = k.calling in
-      let e3 = k.contents in
-      cc
+  as_sent = cc
 
   pub piece_felt : felt_octets own t (parse octets) ≡ law.piece (mark_of w) f r d
-  piece_felt =
-      ap (felt_octets own t) k.reads
-      ∙ ap (felt_read own t k.message) for_us
-      ∙ ap (felt_way k.message) k.routed_here
-      ∙ ap (felt_as w.subsystem k.message) delivered
-      ∙ ap (felt_marked w.subsystem k.message piece_head) well_marked
-      ∙ as_sent
+  piece_felt = rw (k.reads, for_us, k.routed_here, delivered, well_marked) as_sent
 
   -- what the station does with it, given what the slots do
   abbrev pub taken_as : ℕ → View → law.Step → Outcome
@@ -168,14 +149,14 @@ at_felt p (x ∷ h) i y (inr a) = let q = at_felt p h i y a in (q.0, inr q.1, q.
 
 at_low : (h : List Event) (i : ℕ) (x : Event) → At h i x → i < length h
 at_low [] i x a = absurd a
-at_low (y ∷ h) i x (inl a) = let q = a.0 in omega arith
-at_low (y ∷ h) i x (inr a) = let q = at_low h i x a in omega arith
+at_low (y ∷ h) i x (inl a) = omega arith
+at_low (y ∷ h) i x (inr a) = omega (arith, at_low h i x a)
 
 at_one : (h : List Event) (i : ℕ) (x y : Event) → At h i x → At h i y → x ≡ y
 at_one [] i x y a b = absurd a
 at_one (z ∷ h) i x y (inl a) (inl b) = sym a.1 ∙ b.1
-at_one (z ∷ h) i x y (inl a) (inr b) = absurd (let q = at_low h i y b in let p = a.0 in omega arith)
-at_one (z ∷ h) i x y (inr a) (inl b) = absurd (let q = at_low h i x a in let p = b.0 in omega arith)
+at_one (z ∷ h) i x y (inl a) (inr b) = absurd (omega (arith, at_low h i y b))
+at_one (z ∷ h) i x y (inr a) (inl b) = absurd (omega (arith, at_low h i x a))
 at_one (z ∷ h) i x y (inr a) (inr b) = at_one h i x y a b
 
 piece_at : (u : Use) (h : List Event) (i : ℕ) (m : List ℕ) (f : Bool) (r : ℕ) (d : List ℕ) → laws.At (project u h) i (law.piece m f r d)
