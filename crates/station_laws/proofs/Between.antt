@@ -60,14 +60,11 @@ module _ (a b sls : ℕ) (called calling : List ℕ) (class reference : ℕ) (s 
       let f : y ≡ x = cc in
       uses.begins t places x (piece_of t x true r0 d0 (subst (λ (z : List ℕ). SentPiece a b sls called calling class reference z true r0 d0) f p) w)
   comes_first d r ys t places x (laws.continues d' c r' xs' y k p) w e =
-      let f : xs' ≡ [] = (same_from_push xs' [] y x e).0 in
-      let l = some_sent d' (suc r') xs' k in
-      absurd (omega (arith, ap length f))
+      absurd (omega (arith, some_sent d' (suc r') xs' k, ap length (same_from_push xs' [] y x e).0))
 
   comes_on : (d : List ℕ) (r : ℕ) (ys xs : List (List ℕ)) (g : List Event) (t : TablesView) (places : ℕ) (x : List ℕ) → Goes d r ys → 1 ≤ length xs → ((d' : List ℕ) (r' : ℕ) (zs : List (List ℕ)) → Goes d' r' zs → zs ≡ xs → Comes d' r' g) → RoutedTo b t x s → ys ≡ xs ++ x ∷ [] → Comes d r (receive t places x ∷ g)
   comes_on d r ys xs g t places x (laws.begins y p) l on w e =
-      let f : [] ≡ xs = (same_from_push [] xs y x e).0 in
-      absurd (omega (arith, ap length f))
+      absurd (omega (arith, ap length (same_from_push [] xs y x e).0))
   comes_on d r ys xs g t places x (laws.continues d' c r' xs' y k p) l on w e =
       let f = same_from_push xs' xs y x e in
       uses.continues d' c r' g t places x (on d' (suc r') xs' k f.0) (piece_of t x false r' c (subst (λ (z : List ℕ). SentPiece a b sls called calling class reference z false r' c) f.1 p) w) p.some p.few

@@ -23,10 +23,6 @@ use Rattle.outgoing.proofs.Pieces.{count}
 
 -- One piece reads back.
 
-form_ok_is : (b : Bool) → form_ok (Xudt (class_octet 1 b) 15) ≡ true
-form_ok_is true = refl
-form_ok_is false = refl
-
 head_told : (first : Bool) (class r : ℕ) → class < 2 → r < 16
     → (leb 128 (cond first 128 0 + 64 * class + r) ≡ first) × ((cond first 128 0 + 64 * class + r) / 64 % 2 ≡ class) × ((cond first 128 0 + 64 * class + r) % 16 ≡ r)
 head_told true class r h l = (le-leb 128 (128 + 64 * class + r) (omega arith), omega arith, omega arith)
@@ -55,7 +51,7 @@ unfolding span_on
 is_message h n first r d p some =
     record {
       label = (p.code, p.own, let q : h.sequence % 16 < 16 = omega arith in q);
-      form = form_ok_is (h.returns && first);
+      form = elim (h.returns && first) as (λ b. form_ok (Xudt (class_octet 1 b) 15) ≡ true) [ true ↦ refl | false ↦ refl ];
       called = p.called;
       calling = or_left (address_ok h.calling) _ p.calling;
       «data» = some;
@@ -130,14 +126,13 @@ pub record Number (a b n m : ℕ) : Type 0 where
 pub number : (a b n m : ℕ) → a ≤ 32 → b ≤ 32 → n ≤ 3952 → m ≡ count_answer a b n → 2 ≤ m → Number a b n m
 number a b n m ha hb hn e two =
     let c = count_if (sendable a b n) m (piece_count a b n) e (omega arith) in
-    let s = and_parts (in_range a b n) (leb (piece_count a b n) 16) c.1 in
     let p = in_piece a b in
     let g0 : m ≡ (n + p - 1) / p = elim (cases_cond (leb n (in_one a b)) 1 ((n + p - 1) / p) m c.0) [ inl z ↦ absurd (omega arith) | inr z ↦ z ] in
     let u = enough n p (omega arith) in
     let z : m * p ≡ (n + p - 1) / p * p = ap (λ j. j * p) g0 in
     record {
       fewest = c.0;
-      most = omega (arith, leb-true (piece_count a b n) 16 s.1);
+      most = omega (arith, leb-true (piece_count a b n) 16 (and_parts (in_range a b n) (leb (piece_count a b n) 16) c.1).1);
       above = short n p (m - 1) (omega arith) (omega arith);
       within = omega arith;
       small = hn;

@@ -10,7 +10,7 @@ use Rattle.station_laws.specs.Station.{View, from_pieces, by_slots, Outcome, pie
 use Rattle.station_laws.specs.Uses.{Use, after, outcome, Sender, Piece, Unreleased, Apart, Coming, begins, between, continues}
 use Rattle.station_laws.specs.Laws.{ArrivesEntire}
 use Rattle.station_laws.proofs.Project.{slotly, project, slots_agree, ticks_agree}
-use Rattle.station_laws.proofs.Sender.{mark_of, same_sender, felt_reads, piece_felt, piece_taken, unreleased_felt}
+use Rattle.station_laws.proofs.Sender.{mark_of, same_sender, felt_reads, piece_felt, piece_taken, unreleased_felt, taken_as}
 use Rattle.station_laws.proofs.Calls.{felt}
 
 -- what the slots feel of a call that brings no piece of the sender
@@ -32,10 +32,6 @@ coming_felt own w d0 r0 d r g (continues d1 c1 r1 g1 t places octets j p l1 l2) 
     subst (λ (x : law.Event). laws.Sent (mark_of w) d0 r0 (d1 ++ c1) r1 (x ∷ map (felt own) g1)) (sym (piece_felt own t octets w false r1 c1 p))
     (laws.continues d1 c1 r1 (map (felt own) g1) (coming_felt own w d0 r0 d1 (suc r1) g1 j) l1 l2)
 
-told_hands : (t : TablesView) (own places : ℕ) (v : View) (p : Parsed) (s : ℕ) (r : law.Receipt) (a : law.Answer) → a ≡ law.hands r
-    → (told_outcome t own places v p (piece_told s p a)).reply ≡ from_pieces s r
-told_hands t own places v p s r a e = ap (λ (b : law.Answer). (told_outcome t own places v p (piece_told s p b)).reply) e
-
 module _ (u : Use) (h g : List Event) (w : Sender) (c : List ℕ) (t : TablesView) (places : ℕ) (octets : List ℕ) (p : Piece u.code t octets w false 0 c) where
   abbrev last_piece : law.Event
   last_piece = law.piece (mark_of w) false 0 c
@@ -49,7 +45,7 @@ module _ (u : Use) (h g : List Event) (w : Sender) (c : List ℕ) (t : TablesVie
       let now : (law.step u.code u.ticks (after u (g ++ h)).slots last_piece).1 ≡ law.hands r =
       ap (λ (ss : List law.Slot). (law.step u.code u.ticks ss last_piece).1) (slots_agree u (g ++ h) ∙ ap (laws.slots_after (slotly u)) both) ∙ e in
       ap (λ (o : Outcome). o.reply) (piece_taken u.code t octets w false 0 c p u.ticks places (after u (g ++ h)))
-      ∙ told_hands t u.code places _ p.message w.subsystem r _ now
+      ∙ ap (λ (a : law.Answer). (taken_as u.code t octets w false 0 c p places (after u (g ++ h)) ((law.step u.code u.ticks (after u (g ++ h)).slots last_piece).0, a)).reply) now
 
   all : (f : List Event) → project u (f ++ (receive t places octets ∷ (g ++ h))) ≡ project u f ++ (last_piece ∷ (project u g ++ project u h))
   all f = simp (map-append, piece_felt u.code t octets w false 0 c p)

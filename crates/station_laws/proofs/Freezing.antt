@@ -138,22 +138,16 @@ held_by : (n a b : ℕ) (v : View) (o : Outcome) → Move v n o → a + n < 30 �
 held_by n a b v o (still z (p, q, r)) l h =
     let y : 30 - (n + a) ≡ 30 - a = omega arith in
     let e : live (30 - (n + a)) o.after.frozen ≡ live (30 - a) v.frozen = ap (λ j. live j o.after.frozen) y ∙ ap (live (30 - a)) p in
-    let s = ap some_one r in
-    omega arith
+    omega (arith, ap some_one r)
 held_by n a b v o (took z i f p q r) l h =
     let x : Frozen = Timed (record { number = next v.last }) 30 tt in
     let y : 30 - (n + a) ≡ 30 - a = omega arith in
     let e : live (30 - (n + a)) o.after.frozen ≡ live (30 - a) (set v.frozen i x) = ap (λ j. live j o.after.frozen) y ∙ ap (live (30 - a)) p in
-    let t = live_take (30 - a) i x v.frozen (le-leb (30 - a) 30 (omega arith)) f in
-    let s = ap some_one r in
-    omega arith
+    omega (arith, ap some_one r, live_take (30 - a) i x v.frozen (le-leb (30 - a) 30 (omega arith)) f)
 held_by n a b v o (older z p q r) l h =
     let e : live (30 - (n + a)) o.after.frozen ≡ live (30 - (1 + a)) (map ticked v.frozen) = ap (λ j. live (30 - (j + a)) o.after.frozen) z ∙ ap (live (30 - (1 + a))) p in
-    let d = live_down (30 - (1 + a)) v.frozen (omega arith) in
     let y : 30 - (1 + a) + 1 ≡ 30 - a = omega arith in
-    let w = ap (λ j. live j v.frozen) y in
-    let s = ap some_one r in
-    omega arith
+    omega (arith, live_down (30 - (1 + a)) v.frozen (omega arith), ap (λ j. live j v.frozen) y, ap some_one r)
 
 -- each that was given within 30 ticks still holds an entry
 still_held : (u : Use) (h g : List Event) (n : ℕ) → n ≤ live 30 (after u h).frozen → tick_count g < 30 → n + gave u h g ≤ live (30 - tick_count g) (after u (g ++ h)).frozen
@@ -166,8 +160,8 @@ still_held u h (e ∷ g) n a l =
 
 long_by : (n : ℕ) (v : View) (o : Outcome) → Move v n o → length o.after.frozen ≡ length v.frozen
 long_by n v o (still z (p, q, r)) = ap length p
-long_by n v o (took z i f p q r) = ap length p ∙ length-set v.frozen i (Timed (record { number = next v.last }) 30 tt)
-long_by n v o (older z p q r) = ap length p ∙ length-map v.frozen ticked
+long_by n v o (took z i f p q r) = ap length p ∙ simp length-set
+long_by n v o (older z p q r) = ap length p ∙ simp length-map
 
 long : (u : Use) (h : List Event) → length (after u h).frozen ≡ u.entries
 long u [] = length-replicate u.entries Free
@@ -187,7 +181,6 @@ counted u h [] l = (0, omega arith, l)
 counted u h (e ∷ g) l =
     let v = after u (g ++ h) in
     let p = counted_by (is_tick e) ((after u h).last + gave u h g) v (outcome u (g ++ h) e) (moves u.code u.ticks v e) (counted u h g l) in
-    let d = p.1 in
     (p.0, omega arith, p.2)
 
 small : (u : Use) (h : List Event) → (after u h).last < 16777216
@@ -201,9 +194,7 @@ gave_by : (n x : ℕ) (v : View) (o : Outcome) → Move v n o → told o.reply �
 gave_by n x v o (still z (p, q, r)) e = cc
 gave_by n x v o (took z i f p q r) e =
     let y : next v.last ≡ x = cc in
-    let t = live_take 30 i (Timed (record { number = next v.last }) 30 tt) v.frozen refl f in
-    let w = ap (live 30) p in
-    (sym y, q ∙ y, omega arith)
+    (sym y, q ∙ y, omega (arith, ap (live 30) p, live_take 30 i (Timed (record { number = next v.last }) 30 tt) v.frozen refl f))
 gave_by n x v o (older z p q r) e = cc
 
 pub never_shared : (u : Use) → NeverShared u

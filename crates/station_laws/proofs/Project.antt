@@ -90,12 +90,8 @@ sends_aside t own places v q o _ = record { slots = refl; plain = tt; idle = λ 
 
 -- a piece
 module _ (C T : ℕ) (ss : List law.Slot) (m : List ℕ) where
-  new_piecely : (r : ℕ) (d : List ℕ) (o : Option ℕ) → Piecely (law.new_step T ss m r d o).1
-  new_piecely r d None = tt
-  new_piecely r d (Some i) = tt
-
   first_piecely : (r : ℕ) (d : List ℕ) (f : law.Found) → Piecely (law.first_step T ss m r d f).1
-  first_piecely r d law.missing = new_piecely r d (law.last_free ss)
+  first_piecely r d law.missing = elim (law.last_free ss) as (λ o. Piecely (law.new_step T ss m r d o).1) [ None ↦ tt | Some i ↦ tt ]
   first_piecely r d (law.found i o) = tt
 
   checked_piecely : (i : ℕ) (o : law.Open) (r : ℕ) (d : List ℕ) (b : Bool) → Piecely (law.checked C ss i o r d b).1

@@ -99,8 +99,7 @@ module _ (own : ℕ) (t : TablesView) (octets : List ℕ) (w : Sender) (f : Bool
   well_marked : unmarked k.message ≡ false
   well_marked =
       let e = ap (λ (c : List ℕ). length c) k.calling in
-      or_from (ltb (length k.message.calling) 2) (ltb 32 (length k.message.calling))
-      (le-ltb (length k.message.calling) 2 (omega arith)) (le-ltb 32 (length k.message.calling) (omega arith))
+      grind (arith, or_from, le-ltb)
 
   for_us : eqb k.message.label.dpc own ≡ true
   for_us = eq-eqb k.message.label.dpc own k.to_us
@@ -117,12 +116,7 @@ module _ (own : ℕ) (t : TablesView) (octets : List ℕ) (w : Sender) (f : Bool
 
   pub piece_taken : (T places : ℕ) (v : View) → received t own T places v (parse octets) ≡ taken_as places v (law.step own T v.slots (law.piece (mark_of w) f r d))
   piece_taken T places v =
-      ap (received t own T places v) k.reads
-      ∙ cond-true (eqb k.message.label.dpc own) _ _ for_us
-      ∙ ap (routed_by t own T places v k.message) k.routed_here
-      ∙ ap (brought t own T places v w.subsystem k.message) delivered
-      ∙ cond-false (unmarked k.message) _ _ well_marked
-      ∙ ap (λ (x : law.Event). taken_as places v (law.step own T v.slots x)) as_sent
+      rw (k.reads, for_us, k.routed_here, delivered, well_marked) (ap (λ (x : law.Event). taken_as places v (law.step own T v.slots x)) as_sent)
 
 -- a unit from pieces goes to the subsystem of the last piece
 told_from : (t : TablesView) (own places : ℕ) (v : View) (p : Parsed) (s z : ℕ) (r : law.Receipt) (a : law.Answer)
