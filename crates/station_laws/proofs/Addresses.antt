@@ -17,7 +17,7 @@ use Rattle.translation.specs.Trials.{code_trial, trial_of}
 use Rattle.translation.specs.Translating.{RouteView, rule_for, by_rule, is_on_subsystem, TranslationView, with_called, route_for}
 use Rattle.translation.proofs.Routed.{rewritten_there}
 use Rattle.routing.specs.Meanings.{TablesView, translated_by}
-use Rattle.routing.specs.Targets.{TargetView, at_home, away, no_target, nonzero, home, away_to, goes_to, home_unless, at_subsystem, translated_target, at_title, untitled_target, titled_target, target_for}
+use Rattle.routing.specs.Targets.{TargetView, away, nonzero, home, away_to, goes_to, home_unless, at_subsystem, translated_target, at_title, untitled_target, titled_target, target_for}
 use Rattle.outgoing.specs.Addressed.{lacks_code, with_code, completed}
 use Rattle.outgoing.specs.Returns.{calling_for}
 

@@ -1,5 +1,5 @@
 -- What a call that answers "sent in pieces" has put on the line.
-use Rattle.std.proofs.Common.{◌≡◌, ℕ, zero, suc, ◌+◌, ◌-◌, ◌*◌, ◌/◌, ◌%◌, ◌<◌, ◌≤◌, Bool, true, false, cond, ◌&&◌, leb, List, [], ◌∷◌, ◌++◌, length, take, drop, Some, Ok, sym, refl, ap, ◌∙◌, subst, append_assoc, one-mul, arith, inl, inr}
+use Rattle.std.proofs.Common.{◌≡◌, ℕ, zero, suc, ◌+◌, ◌-◌, ◌*◌, ◌/◌, ◌%◌, ◌<◌, ◌≤◌, Bool, true, false, cond, ◌&&◌, leb, List, [], ◌∷◌, ◌++◌, length, take, drop, Some, refl, ap, subst, append_assoc, one-mul, arith, inl, inr}
 use Rattle.std.proofs.lemmas.List.{take-append-drop, length-take-le, length-drop}
 use Rattle.std.proofs.lemmas.Bool.{and_parts, or_left, leb-true, le-leb, lt-leb, cases_cond}
 use Rattle.address.specs.Address.{address_ok, code_of}
@@ -7,7 +7,7 @@ use Rattle.address.proofs.Rewrites.{good_parts}
 use Rattle.message.specs.declared.messages.Form.TheVariants.{Xudt}
 use Rattle.message.specs.Options.{segmentation_found, span_on}
 use Rattle.writing.specs.Write.{encode}
-use Rattle.writing.specs.RoundTrip.{form_ok, scanned, segmented_by, IsMessage}
+use Rattle.writing.specs.RoundTrip.{form_ok, IsMessage}
 use Rattle.writing.proofs.Back.{written_reads_back}
 use Rattle.pieces.specs.Pieces.{in_one, in_piece, piece_count, in_range, sendable, count_answer}
 use Rattle.pieces.proofs.Cuts.{enough, short}

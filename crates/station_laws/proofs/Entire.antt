@@ -1,16 +1,15 @@
 -- A unit arrives entire, from the same law of the slots.
 use Rattle.std.proofs.Common.{◌≡◌, ℕ, suc, ◌<◌, true, false, List, [], ◌∷◌, ◌++◌, map, length, get_or, sym, refl, ap, ◌∙◌, subst, arith}
 use Rattle.std.proofs.lemmas.List.{length-map, map-append}
-use Rattle.message.specs.Read.{Parsed}
 use Rattle.routing.specs.Meanings.{TablesView}
 use Rattle.slot_laws.specs.Machine as law
 use Rattle.slot_laws.specs.Uses as laws
 use Rattle.slot_laws.proofs.Arrive as arrive
-use Rattle.station_laws.specs.Station.{View, from_pieces, by_slots, Outcome, piece_told, told_outcome, Event, receive, copy}
+use Rattle.station_laws.specs.Station.{from_pieces, by_slots, Event, receive, copy}
 use Rattle.station_laws.specs.Uses.{Use, after, outcome, Sender, Piece, Unreleased, Apart, Coming, begins, between, continues}
 use Rattle.station_laws.specs.Laws.{ArrivesEntire}
-use Rattle.station_laws.proofs.Project.{slotly, project, slots_agree, ticks_agree}
-use Rattle.station_laws.proofs.Sender.{mark_of, same_sender, felt_reads, piece_felt, piece_taken, unreleased_felt, taken_as}
+use Rattle.station_laws.proofs.Project.{slotly, project, slots_agree, ticks_agree, slot_agrees}
+use Rattle.station_laws.proofs.Sender.{mark_of, same_sender, felt_reads, piece_felt, unreleased_felt, hands_to}
 use Rattle.station_laws.proofs.Calls.{felt}
 
 -- what the slots feel of a call that brings no piece of the sender
@@ -19,9 +18,7 @@ not_felt own w e p (law.piece n f r d) k = λ same.
     let q = felt_reads own e n f r d k in
     let l = q.4 in
     p q.0 q.1 q.2 f r d q.3 (subst (λ (z : Sender). Piece own q.0 q.2 z f r d) (same_sender l.0 w (sym l.1 ∙ same)) l.2)
-not_felt own w e p law.tick k = tt
-not_felt own w e p (law.release r) k = tt
-not_felt own w e p (law.copy r n) k = tt
+not_felt own w e p _ k = tt
 
 coming_felt : (own : ℕ) (w : Sender) (d0 : List ℕ) (r0 : ℕ) (d : List ℕ) (r : ℕ) (g : List Event) → Coming own w d0 r0 d r g → laws.Sent (mark_of w) d0 r0 d r (map (felt own) g)
 coming_felt own w d0 r0 d r g (begins t places octets p) =
@@ -42,10 +39,8 @@ module _ (u : Use) (h g : List Event) (w : Sender) (c : List ℕ) (t : TablesVie
   handed_here : (r : law.Receipt) → laws.answer_to (slotly u) (project u g ++ project u h) last_piece ≡ law.hands r
       → (outcome u (g ++ h) (receive t places octets)).reply ≡ from_pieces w.subsystem r
   handed_here r e =
-      let now : (law.step u.code u.ticks (after u (g ++ h)).slots last_piece).1 ≡ law.hands r =
-      ap (λ (ss : List law.Slot). (law.step u.code u.ticks ss last_piece).1) (slots_agree u (g ++ h) ∙ ap (laws.slots_after (slotly u)) both) ∙ e in
-      ap (λ (o : Outcome). o.reply) (piece_taken u.code t octets w false 0 c p u.ticks places (after u (g ++ h)))
-      ∙ ap (λ (a : law.Answer). (taken_as u.code t octets w false 0 c p places (after u (g ++ h)) ((law.step u.code u.ticks (after u (g ++ h)).slots last_piece).0, a)).reply) now
+      hands_to u.code t octets w false 0 c p u.ticks places (after u (g ++ h)) r
+      (ap (λ (ss : List law.Slot). (law.step u.code u.ticks ss last_piece).1) (slots_agree u (g ++ h) ∙ ap (laws.slots_after (slotly u)) both) ∙ e)
 
   all : (f : List Event) → project u (f ++ (receive t places octets ∷ (g ++ h))) ≡ project u f ++ (last_piece ∷ (project u g ++ project u h))
   all f = simp (map-append, piece_felt u.code t octets w false 0 c p)
@@ -68,8 +63,8 @@ module _ (u : Use) (h g : List Event) (w : Sender) (c : List ℕ) (t : TablesVie
 pub arrives_entire : (u : Use) → ArrivesEntire u
 arrives_entire u h g w d0 d c r0 i t places octets h1 h2 h3 h4 h5 h6 j p h7 h8 h9 h10 h11 =
     let free-there : get_or (laws.slots_after (slotly u) (project u h)) i law.free ≡ law.free =
-    ap (λ (ss : List law.Slot). get_or ss i law.free) (sym (slots_agree u h)) ∙ h6 in
-    let few : laws.tick_count (project u g) < u.ticks = let z = ticks_agree u g in omega arith in
+    sym (slot_agrees u h i) ∙ h6 in
+    let few : laws.tick_count (project u g) < u.ticks = omega (arith, ticks_agree u g) in
     let k = arrive.arrives_entire (slotly u) (project u h) (project u g) (mark_of w) d0 d c r0 i h1 h2 h3 h4 h5 free-there
     (coming_felt u.code w d0 r0 d 1 g j) h7 h8 h9 h10 few in (
       k.0,

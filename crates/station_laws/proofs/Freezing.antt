@@ -5,7 +5,7 @@ use Rattle.std.proofs.lemmas.Bool.{le-leb, lt-leb, ltb-true, ltb-false, cond_bot
 use Rattle.message.specs.Read.{Parsed}
 use Rattle.slot_laws.specs.Machine as law
 use Rattle.timed_table.specs.declared.entry.Entry.{Entry}
-use Rattle.timed_table.specs.declared.entry.Entry.TheVariants.{Free, Timed, Held}
+use Rattle.timed_table.specs.declared.entry.Entry.TheVariants.{Free, Timed}
 use Rattle.timed_table.specs.declared.reference.Reference.{Reference}
 use Rattle.timed_table.specs.Table.{last_from, is_free, ticked}
 use Rattle.translation.specs.declared.causes.Cause.{Cause}
@@ -119,7 +119,7 @@ taken k n i (t ∷ ts) found e = taken_on k n i t ts found (taken k (n + 1) i ts
 -- and is live now
 live_take : (k i : ℕ) (x : Frozen) (ts : List Frozen) → alive k x ≡ true → last_from is_free 0 None ts ≡ Some i → live k (set ts i x) ≡ 1 + live k ts
 live_take k i x ts a e = elim (taken k 0 i ts None e) [
-  inl z ↦ cc
+  | inl z ↦ cc
   | inr (j, f, l, g) ↦
       let w : j ≡ i = omega arith in
       subst (λ (y : ℕ). live k (set ts y x) ≡ 1 + live k ts) w (omega (arith, ap one a, ap one g, sum_by-set (λ t. one (alive k t)) ts j x Free l))

@@ -1,5 +1,5 @@
 -- No opening outlives its ticks, from the same law of the slots.
-use Rattle.std.proofs.Common.{◌≡◌, ℕ, ◌≤◌, List, [], ◌∷◌, ◌++◌, get_or, sym, refl, ap, ◌∙◌, subst, inl, inr, arith}
+use Rattle.std.proofs.Common.{◌≡◌, ℕ, ◌≤◌, List, [], ◌∷◌, ◌++◌, sym, refl, ap, ◌∙◌, subst, inl, inr, arith}
 use Rattle.std.proofs.lemmas.List.{map-append}
 use Rattle.slot_laws.specs.Machine as law
 use Rattle.slot_laws.specs.Uses as laws
@@ -7,24 +7,17 @@ use Rattle.slot_laws.proofs.Time as time
 use Rattle.station_laws.specs.Station.{Event, tick}
 use Rattle.station_laws.specs.Uses.{Use, outcome}
 use Rattle.station_laws.specs.Laws.{Ends, handed, broken, restarted, lapsed, Over, now_over, before, Opens, NoOpeningOutlives}
-use Rattle.station_laws.proofs.Project.{slotly, project, slots_agree, replies_agree, says_hands, says_by, by_said, ticks_agree, felt_tick}
+use Rattle.station_laws.proofs.Project.{slotly, project, replies_agree, says_hands, says_by, by_said, ticks_agree, felt_tick, slot_agrees}
 use Rattle.station_laws.proofs.Calls.{felt}
 
 -- what ends an opening of the slots ends it at the station
 ends_felt : (u : Use) (h : List Event) (i : ℕ) (e : Event) (y : law.Event) → felt u.code e ≡ y
     → laws.Ends u.code u.ticks (laws.slots_after (slotly u) (project u h)) i y → Ends u h i e
-ends_felt u h i e y w (laws.handed r k q) =
-    let a : laws.answer_to (slotly u) (project u h) (felt u.code e) ≡ law.hands r = ap (laws.answer_to (slotly u) (project u h)) w ∙ k in
-    let s = says_hands _ _ r (replies_agree u h e) a in
-    handed s.0 r s.1 q
-ends_felt u h i e y w (laws.broken k) =
-    let a : laws.answer_to (slotly u) (project u h) (felt u.code e) ≡ law.breaks i = ap (laws.answer_to (slotly u) (project u h)) w ∙ k in
-    broken (says_by _ _ (law.breaks i) (replies_agree u h e) a tt (λ z. z))
-ends_felt u h i e y w (laws.restarted k) =
-    let a : laws.answer_to (slotly u) (project u h) (felt u.code e) ≡ law.restarts i = ap (laws.answer_to (slotly u) (project u h)) w ∙ k in
-    restarted (says_by _ _ (law.restarts i) (replies_agree u h e) a tt (λ z. z))
+ends_felt u h i e y w (laws.handed r k q) = let s = says_hands _ _ r (replies_agree u h e) (rw w k) in handed s.0 r s.1 q
+ends_felt u h i e y w (laws.broken k) = broken (says_by _ _ (law.breaks i) (replies_agree u h e) (rw w k) tt (λ z. z))
+ends_felt u h i e y w (laws.restarted k) = restarted (says_by _ _ (law.restarts i) (replies_agree u h e) (rw w k) tt (λ z. z))
 ends_felt u h i e y w (laws.lapsed k) =
-    subst (Ends u h i) (sym (felt_tick u.code e w)) (lapsed (ap (λ (ss : List law.Slot). get_or ss i law.free) (slots_agree u (tick ∷ h)) ∙ k))
+    subst (Ends u h i) (sym (felt_tick u.code e w)) (lapsed (slot_agrees u (tick ∷ h) i ∙ k))
 
 over_felt : (u : Use) (h : List Event) (i : ℕ) (g : List Event) (y : List law.Event) → project u g ≡ y
     → laws.Over (slotly u) (project u h) i y → Over u h i g
@@ -45,6 +38,6 @@ opens_felt u h e i (inr k) = inr (by_said _ _ (law.restarts i) (replies_agree u 
 
 pub no_opening_outlives : (u : Use) → 1 ≤ u.ticks → NoOpeningOutlives u
 no_opening_outlives u k h g e i o t =
-    let c : u.ticks ≤ laws.tick_count (project u g) = let z = ticks_agree u g in omega arith in
+    let c : u.ticks ≤ laws.tick_count (project u g) = omega (arith, ticks_agree u g) in
     over_felt u (e ∷ h) i g (project u g) refl
     (time.no_opening_outlives (slotly u) k (project u h) (project u g) (felt u.code e) i (opens_felt u h e i o) c)

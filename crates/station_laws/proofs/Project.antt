@@ -1,6 +1,5 @@
 -- A station's history, as its slots feel it: each call is to the slots a piece, a tick, a copy or a release, and what the station answers follows what they answer.
-use Rattle.std.proofs.Common.{◌≡◌, ℕ, zero, suc, Bool, true, false, leb, List, [], ◌∷◌, map, length, Some, None, Option, sym, refl, ap, ◌∙◌, subst, arith}
-use Rattle.std.proofs.lemmas.Bool.{false≢true}
+use Rattle.std.proofs.Common.{◌≡◌, ℕ, zero, suc, Bool, true, false, leb, List, [], ◌∷◌, map, length, Some, None, sym, refl, ap, ◌∙◌, subst, arith, get_or}
 use Rattle.message.specs.Read.{Parsed}
 use Rattle.translation.specs.declared.causes.Cause.{Cause}
 use Rattle.translation.specs.declared.causes.Cause.TheVariants.{Unqualified}
@@ -173,6 +172,9 @@ slots_agree u [] = refl
 slots_agree u (e ∷ h) =
     (step_follows u.code u.ticks (after u h) e).slots
     ∙ ap (λ (ss : List law.Slot). (law.step u.code u.ticks ss (felt u.code e)).0) (slots_agree u h)
+
+pub slot_agrees : (u : Use) (h : List Event) (i : ℕ) → get_or (after u h).slots i law.free ≡ get_or (laws.slots_after (slotly u) (project u h)) i law.free
+slot_agrees u h i = ap (λ (ss : List law.Slot). get_or ss i law.free) (slots_agree u h)
 
 pub replies_agree : (u : Use) (h : List Event) (e : Event) → Says (outcome u h e).reply (laws.answer_to (slotly u) (project u h) (felt u.code e))
 replies_agree u h e =

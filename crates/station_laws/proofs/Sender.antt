@@ -1,24 +1,22 @@
 -- One sender's data, and that a unit is kept until it is released, from the same laws of the slots.
-use Rattle.std.proofs.Common.{◌≡◌, ℕ, suc, ◌<◌, Bool, true, false, eqb, ltb, List, [], ◌∷◌, ◌++◌, map, length, get_or, Some, None, Option, sym, refl, ap, ◌∙◌, subst, inl, inr, arith}
+use Rattle.std.proofs.Common.{◌≡◌, ℕ, suc, ◌<◌, Bool, true, false, eqb, ltb, List, [], ◌∷◌, ◌++◌, map, length, Some, None, Option, sym, refl, ap, ◌∙◌, subst, inl, inr, arith}
 use Rattle.std.proofs.lemmas.List.{length-map, same_from_push}
-use Rattle.std.proofs.lemmas.Bool.{eq-eqb, ltb-false, le-ltb, or_parts, or_from, cond-true, cond-false}
+use Rattle.std.proofs.lemmas.Bool.{eq-eqb, ltb-false, le-ltb, or_parts, or_from}
 use Rattle.message.specs.declared.messages.Form.{Form}
 use Rattle.message.specs.declared.messages.Form.TheVariants.{Xudt}
 use Rattle.message.specs.declared.parts_of_options.Segmentation.{Segmentation}
 use Rattle.message.specs.Options.{segmentation_found}
-use Rattle.message.specs.Read.{Parsed, parse}
-use Rattle.translation.specs.declared.causes.Cause.TheVariants.{Unqualified}
+use Rattle.message.specs.Read.{parse}
 use Rattle.routing.specs.Meanings.{TablesView}
 use Rattle.routing.specs.Deliveries.{as_piece, segmented_as, delivery_of}
-use Rattle.outgoing.specs.Returns.{give_back}
 use Rattle.slot_laws.specs.Machine as law
 use Rattle.slot_laws.specs.Uses as laws
 use Rattle.slot_laws.proofs.Keep as keep
-use Rattle.station_laws.specs.Station.{View, with_slots, from_pieces, by_slots, Outcome, mark, piece_told, told_outcome, piece_of, unmarked, brought, routed_by, received, Event, receive, station_step}
+use Rattle.station_laws.specs.Station.{View, with_slots, from_pieces, by_slots, Outcome, mark, piece_told, told_outcome, piece_of, unmarked, received, Event, receive, station_step}
 use Rattle.station_laws.specs.Uses.{Use, after, At, Sender, Piece, PieceAt, Joined, first, then, HandedUp, Unreleased}
 use Rattle.station_laws.specs.Laws.{OneSender, Kept}
-use Rattle.station_laws.proofs.Project.{Plain, given_plain, slotly, project, slots_agree, replies_agree, says_hands, says_by, hands_said, by_said}
-use Rattle.station_laws.proofs.Calls.{just_opened, felt_marked, felt_as, felt_way, felt_read, felt_octets, felt, Taking, piece, taking}
+use Rattle.station_laws.proofs.Project.{slotly, project, slots_agree, replies_agree, says_hands, says_by, hands_said, by_said, step_follows, slot_agrees}
+use Rattle.station_laws.proofs.Calls.{just_opened, felt_octets, felt, Taking, piece, taking}
 
 -- the mark of a sender
 abbrev pub mark_of : Sender → List ℕ
@@ -118,21 +116,18 @@ module _ (own : ℕ) (t : TablesView) (octets : List ℕ) (w : Sender) (f : Bool
   piece_taken T places v =
       rw (k.reads, for_us, k.routed_here, delivered, well_marked) (ap (λ (x : law.Event). taken_as places v (law.step own T v.slots x)) as_sent)
 
--- a unit from pieces goes to the subsystem of the last piece
-told_from : (t : TablesView) (own places : ℕ) (v : View) (p : Parsed) (s z : ℕ) (r : law.Receipt) (a : law.Answer)
-    → (told_outcome t own places v p (piece_told s p a)).reply ≡ from_pieces z r → s ≡ z
-told_from t own places v p s z r (law.declined n) e = absurd (subst Plain e (given_plain Unqualified p (give_back t own places Unqualified p).done).0)
-told_from t own places v p s z r (law.lapses n) e = absurd (subst Plain e (given_plain Unqualified p (give_back t own places Unqualified p).done).0)
-told_from t own places v p s z r (law.released i) e = absurd (subst Plain e (given_plain Unqualified p (give_back t own places Unqualified p).done).0)
-told_from t own places v p s z r (law.copied d) e = absurd (subst Plain e (given_plain Unqualified p (give_back t own places Unqualified p).done).0)
-told_from t own places v p s z r (law.refused c) e = absurd (subst Plain e (given_plain _ p (give_back t own places _ p).done).0)
-told_from t own places v p s z r _ e = cc
+  -- a unit from pieces goes to the subsystem of the last piece
+  pub hands_to : (T places : ℕ) (v : View) (q : law.Receipt) → (law.step own T v.slots (law.piece (mark_of w) f r d)).1 ≡ law.hands q
+      → (received t own T places v (parse octets)).reply ≡ from_pieces w.subsystem q
+  hands_to T places v q e =
+      ap (λ (o : Outcome). o.reply) (piece_taken T places v)
+      ∙ ap (λ (a : law.Answer). (taken_as places v ((law.step own T v.slots (law.piece (mark_of w) f r d)).0, a)).reply) e
 
-subsystem_told_is : (own T : ℕ) (t : TablesView) (places : ℕ) (octets : List ℕ) (w : Sender) (f : Bool) (r : ℕ) (d : List ℕ) → Piece own t octets w f r d
-    → (v : View) (s : ℕ) (q : law.Receipt) → (station_step own T v (receive t places octets)).reply ≡ from_pieces s q → w.subsystem ≡ s
-subsystem_told_is own T t places octets w f r d k v s q e =
-    told_from t own places _ k.message w.subsystem s q (law.step own T v.slots (law.piece (mark_of w) f r d)).1
-    (ap (λ (o : Outcome). o.reply) (sym (piece_taken own t octets w f r d k T places v)) ∙ e)
+  subsystem_told_is : (T places : ℕ) (v : View) (s : ℕ) (q : law.Receipt) → (station_step own T v (receive t places octets)).reply ≡ from_pieces s q → w.subsystem ≡ s
+  subsystem_told_is T places v s q e =
+      let a = ap (λ (x : law.Event). (law.step own T v.slots x).1) (sym piece_felt) ∙ hands_said _ _ s q (step_follows own T v (receive t places octets)).says e in
+      let b = hands_to T places v q a in
+      cc
 
 -- Places are the same in both histories.
 
@@ -187,7 +182,7 @@ handed_felt u (e ∷ h) k s r x (inl p) =
       p.0 ∙ sym (length-map h (felt u.code)),
       (
         hands_said _ _ s r (replies_agree u h e) p.1,
-        ap (λ (ss : List law.Slot). get_or ss r.slot law.free) (sym (slots_agree u (e ∷ h))) ∙ p.2,
+        sym (slot_agrees u (e ∷ h) r.slot) ∙ p.2,
       ),
     )
 handed_felt u (e ∷ h) k s r x (inr p) = inr (handed_felt u h k s r x p)
@@ -196,7 +191,7 @@ handed_back : (u : Use) (h : List Event) (k : ℕ) (r : law.Receipt) (x : List �
 handed_back u [] k r x p = absurd p
 handed_back u (e ∷ h) k r x (inl p) =
     let q = says_hands _ _ r (replies_agree u h e) p.1.0 in
-    (q.0, inl (p.0 ∙ length-map h (felt u.code), q.1, ap (λ (ss : List law.Slot). get_or ss r.slot law.free) (slots_agree u (e ∷ h)) ∙ p.1.1))
+    (q.0, inl (p.0 ∙ length-map h (felt u.code), q.1, slot_agrees u (e ∷ h) r.slot ∙ p.1.1))
 handed_back u (e ∷ h) k r x (inr p) = let q = handed_back u h k r x p in (q.0, inr q.1)
 
 handed_at : (u : Use) (h : List Event) (k s : ℕ) (r : law.Receipt) (x : List ℕ) → HandedUp u h k s r x
@@ -208,14 +203,14 @@ handed_at u (e ∷ h) k s r x (inr p) = let q = handed_at u h k s r x p in (q.0,
 pub unreleased_felt : (u : Use) (h : List Event) (k i : ℕ) → Unreleased u h k i → laws.Unreleased (slotly u) (project u h) k i
 unreleased_felt u [] k i p = tt
 unreleased_felt u (e ∷ h) k i p = (
-  (λ l a. p.0 (let z = length-map h (felt u.code) in omega arith) (says_by _ _ (law.released i) (replies_agree u h e) a tt (λ z. z))),
+  (λ l a. p.0 (omega (arith, length-map h (felt u.code))) (says_by _ _ (law.released i) (replies_agree u h e) a tt (λ z. z))),
   unreleased_felt u h k i p.1,
 )
 
 unreleased_back : (u : Use) (h : List Event) (k i : ℕ) → laws.Unreleased (slotly u) (project u h) k i → Unreleased u h k i
 unreleased_back u [] k i p = tt
 unreleased_back u (e ∷ h) k i p = (
-  (λ l a. p.0 (let z = length-map h (felt u.code) in omega arith) (by_said _ _ (law.released i) (replies_agree u h e) a)),
+  (λ l a. p.0 (omega (arith, length-map h (felt u.code))) (by_said _ _ (law.released i) (replies_agree u h e) a)),
   unreleased_back u h k i p.1,
 )
 
@@ -231,11 +226,11 @@ one_sender u h =
           let g = handed_at u h k s r x p in
           let same : g.0 ≡ receive b.0 b.1 b.2 = at_one h k g.0 (receive b.0 b.1 b.2) g.2 b.3 in
           let told = ap (λ (e : Event). (station_step u.code u.ticks g.1 e).reply) (sym same) ∙ g.3 in
-          let here = subsystem_told_is u.code u.ticks b.0 b.1 b.2 q.0 n.0 n.1 n.2 b.4 g.1 s r told in
+          let here = subsystem_told_is u.code b.0 b.2 q.0 n.0 n.1 n.2 b.4 u.ticks b.1 g.1 s r told in
           (q.0, j.1, here, j.2, j.3, q.2)),
       law-says.2,
       (λ i x e.
-          let w = law-says.3 i x (ap (λ (ss : List law.Slot). get_or ss i law.free) (sym (slots_agree u h)) ∙ e) in
+          let w = law-says.3 i x (sym (slot_agrees u h i) ∙ e) in
           let b = handed_back u h w.0 w.1 x w.3 in
           (w.0, b.0, w.1, w.2, b.1, unreleased_back u h w.0 i w.4)),
     )
@@ -246,7 +241,7 @@ kept u h k s r x p n =
       q.0,
       q.1,
       q.2,
-      ap (λ (ss : List law.Slot). get_or ss r.slot law.free) (slots_agree u h) ∙ q.3,
+      slot_agrees u h r.slot ∙ q.3,
       (λ room l.
           ap (λ (ss : List law.Slot). by_slots (law.step u.code u.ticks ss (law.copy r room)).1) (slots_agree u h) ∙ ap by_slots (q.4 room l)),
     )
