@@ -105,13 +105,12 @@ between arrives cut a b h t places q count reference sls la lb e =
           let d = l.before in
           let c = l.piece in
           let w = sender_of a.code n s.calling reference in
-          let f = l.joined in
           let z : count - 1 + 1 ≡ count = omega arith in
           let z1 : (count - 1 + 1) * length s.first ≡ count * length s.first = ap (λ y. y * length s.first) z in
-          let z2 : length q.contents ≡ length (d ++ c) = ap length f in
+          let z2 : length q.contents ≡ length (d ++ c) = ap length l.joined in
           let coming = comes a.code b.code sls s.called s.calling q.class reference n s.first (count - 1) s.good_calling d 1 xs xs g l.carried taken refl in
           let last = piece_of a.code b.code sls s.called s.calling q.class reference n s.first (count - 1) s.good_calling u x false 0 c l.is way in
           let few = first_few a.code b.code sls s.called s.calling q.class reference n s.first (count - 1) s.good_calling d 1 xs l.carried in
           let r = arrives b k g w s.first d c (count - 1) i u room x (omega arith) (omega arith) s.some few slot free coming last l.is.some l.is.few (omega arith) (omega arith) time in
-          (r.0, r.1, subst (λ (y : List ℕ). laws.CopiesGive b (g ++ k) (receive u room x) r.0 y) (sym f) r.2),
+          (r.0, r.1, subst (λ (y : List ℕ). laws.CopiesGive b (g ++ k) (receive u room x) r.0 y) (sym l.joined) r.2),
     )

@@ -32,14 +32,12 @@ felt_marked s p g true = nothing
 felt_marked s p g false = piece_of s p g
 
 abbrev pub felt_as : ℕ → Parsed → DeliveryView → law.Event
-felt_as s p as_unit = nothing
-felt_as s p as_notice = nothing
 felt_as s p (as_piece g) = felt_marked s p g (unmarked p)
+felt_as s p _ = nothing
 
 abbrev pub felt_way : Parsed → WayView → law.Event
 felt_way p (to_subsystem s) = felt_as s p (delivery_of p.form p.options)
-felt_way p (onward code f called) = nothing
-felt_way p (nowhere c) = nothing
+felt_way p _ = nothing
 
 abbrev pub felt_read : ℕ → TablesView → Parsed → Bool → law.Event
 felt_read own t p true = felt_way p (way_for t own p.form p.called)

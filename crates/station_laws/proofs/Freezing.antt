@@ -13,8 +13,7 @@ use Rattle.translation.specs.declared.causes.Cause.TheVariants.{Unqualified, Net
 use Rattle.routing.specs.Meanings.{TablesView}
 use Rattle.outgoing.specs.declared.returning.Givenback.{Givenback}
 use Rattle.outgoing.specs.declared.returning.Givenback.TheVariants.{Returned}
-use Rattle.outgoing.specs.Returns.{give_back}
-use Rattle.station_laws.specs.Station.{View, with_slots, Reply, sent_pieces, Outcome, given_outcome, caused, piece_told, told_outcome, piece_of, Request, next, Event, send, receive, tick, copy, release, station_step}
+use Rattle.station_laws.specs.Station.{View, with_slots, Reply, sent_pieces, Outcome, given_reply, piece_told, told_outcome, piece_of, Request, next, Event, send, receive, tick, station_step}
 use Rattle.station_laws.specs.Uses.{Use, after, outcome, is_tick, tick_count}
 use Rattle.station_laws.specs.Laws.{NeverShared}
 use Rattle.station_laws.proofs.Calls.{Sending, pieces, sending, Taking, back, piece, taking}
@@ -41,25 +40,22 @@ data Move (v : View) (n : ℕ) (o : Outcome) : Type 0 where
       → o.after.last ≡ next v.last → told o.reply ≡ Some (next v.last) → Move v n o
   older : n ≡ 1 → o.after.frozen ≡ map ticked v.frozen → o.after.last ≡ v.last → told o.reply ≡ None → Move v n o
 
-still_given : (v w : View) (c : Cause) (p : Parsed) (d : Givenback) (s : List (List ℕ)) → w.frozen ≡ v.frozen → w.last ≡ v.last → Still v (given_outcome w c p (record { done = d; sent = s }))
-still_given v w c p (Returned code) s e f = (e, f, refl)
-still_given v w c p _ s e f = (e, f, refl)
-
-still_caused : (t : TablesView) (own places : ℕ) (v w : View) (p : Parsed) (c : Cause) → w.frozen ≡ v.frozen → w.last ≡ v.last → Still v (caused t own places w p c)
-still_caused t own places v w p c e f = still_given v w c p (give_back t own places c p).done (give_back t own places c p).sent e f
+untold : (c : Cause) (p : Parsed) (d : Givenback) → told (given_reply c p d) ≡ None
+untold c p (Returned code) = refl
+untold c p _ = refl
 
 still_piece : (t : TablesView) (own places : ℕ) (v : View) (ss : List law.Slot) (s : ℕ) (p : Parsed) (a : law.Answer) → Still v (told_outcome t own places (with_slots v ss) p (piece_told s p a))
-still_piece t own places v ss s p (law.declined n) = still_caused t own places v (with_slots v ss) p Unqualified refl refl
-still_piece t own places v ss s p (law.lapses n) = still_caused t own places v (with_slots v ss) p Unqualified refl refl
-still_piece t own places v ss s p (law.released i) = still_caused t own places v (with_slots v ss) p Unqualified refl refl
-still_piece t own places v ss s p (law.copied d) = still_caused t own places v (with_slots v ss) p Unqualified refl refl
-still_piece t own places v ss s p (law.refused c) = still_caused t own places v (with_slots v ss) p (cond (eqb c 10) NoReassembly NetworkCongestion) refl refl
+still_piece t own places v ss s p (law.declined n) = (refl, refl, untold Unqualified p _)
+still_piece t own places v ss s p (law.lapses n) = (refl, refl, untold Unqualified p _)
+still_piece t own places v ss s p (law.released i) = (refl, refl, untold Unqualified p _)
+still_piece t own places v ss s p (law.copied d) = (refl, refl, untold Unqualified p _)
+still_piece t own places v ss s p (law.refused c) = (refl, refl, untold (cond (eqb c 10) NoReassembly NetworkCongestion) p _)
 still_piece t own places v ss s p _ = (refl, refl, refl)
 
 still_taken : (own : ℕ) (t : TablesView) (octets : List ℕ) (T places : ℕ) (v : View) (x : law.Event) (o : Outcome) → Taking own t octets T places v x o → Still v o
 still_taken own t octets T places v x o (piece p s g k1 k2 k3 k4 k5) =
     let st = law.step own T v.slots (piece_of s p g) in still_piece t own places v st.0 s p st.1
-still_taken own t octets T places v x o (back p c) = still_caused t own places v v p c refl refl
+still_taken own t octets T places v x o (back p c) = (refl, refl, untold c p _)
 still_taken own t octets T places v x o _ = (refl, refl, refl)
 
 move_sent : (t : TablesView) (own places : ℕ) (v : View) (q : Request) (o : Outcome) → Sending t own places v q o → Move v 0 o
@@ -70,8 +66,7 @@ moves : (own T : ℕ) (v : View) (e : Event) → Move v (is_tick e) (station_ste
 moves own T v (send t places q) = move_sent t own places v q _ (sending t own places v q)
 moves own T v (receive t places octets) = still refl (still_taken own t octets T places v _ _ (taking own t octets T places v))
 moves own T v tick = older refl refl refl refl
-moves own T v (copy r room) = still refl (refl, refl, refl)
-moves own T v (release r) = still refl (refl, refl, refl)
+moves own T v _ = still refl (refl, refl, refl)
 
 -- Entries with at least k ticks left.
 

@@ -60,9 +60,8 @@ record Aside (v : View) (o : Outcome) : Type 0 where
   idle : declines o.reply ≡ true → (o.after ≡ v) × (o.sent ≡ [])
 
 copy_idle : (room : ℕ) (s : law.Slot) → Idle (law.copy_answer room s)
-copy_idle room law.free = tt
-copy_idle room (law.opened o) = tt
 copy_idle room (law.whole d) = elim (leb (length d) room) as (λ b. Idle (law.copied_if d b)) [ true ↦ tt | false ↦ tt ]
+copy_idle room _ = tt
 
 aside : (C T : ℕ) (v : View) (o : Outcome) → Aside v o → Follows v (law.step C T v.slots nothing) o
 aside C T v o k = record { slots = k.slots; says = other o.reply _ k.plain (copy_idle 0 (law.named C v.slots (record { code = 0; slot = 0; size = 0 }))); idle = k.idle }
@@ -70,7 +69,7 @@ aside C T v o k = record { slots = k.slots; says = other o.reply _ k.plain (copy
 -- What one call does.
 
 -- a message with a cause
-pub given_plain : (c : Cause) (p : Parsed) (g : Givenback) → Plain (given_reply c p g) × (declines (given_reply c p g) ≡ false)
+given_plain : (c : Cause) (p : Parsed) (g : Givenback) → Plain (given_reply c p g) × (declines (given_reply c p g) ≡ false)
 given_plain c p (Returned code) = (tt, refl)
 given_plain c p _ = (tt, refl)
 
@@ -251,11 +250,8 @@ takes_no_tick own t octets T places v x o foreign = refl
 takes_no_tick own t octets T places v x o _ = refl
 
 tick_agrees : (own : ℕ) (e : Event) → laws.is_tick (felt own e) ≡ is_tick e
-tick_agrees own (send t places q) = refl
 tick_agrees own (receive t places octets) = takes_no_tick own t octets 0 places just_opened _ _ (taking own t octets 0 places _)
-tick_agrees own tick = refl
-tick_agrees own (copy r room) = refl
-tick_agrees own (release r) = refl
+tick_agrees own _ = refl
 
 pub ticks_agree : (u : Use) (g : List Event) → laws.tick_count (project u g) ≡ tick_count g
 ticks_agree u [] = refl
