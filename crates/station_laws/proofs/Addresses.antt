@@ -59,7 +59,7 @@ Good _ = Unit {0}
 
 good_home : (s : Option ℕ) → Good (home s)
 good_home None = tt
-good_home _ = tt
+good_home (Some s) = tt
 
 good_to : (c : ℕ) (o : Option (List ℕ)) → ((b : List ℕ) → o ≡ Some b → address_ok b ≡ true) → Good (away_to c o)
 good_to c None h = tt
