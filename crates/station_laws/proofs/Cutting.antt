@@ -19,7 +19,6 @@ use Rattle.station_laws.specs.Uses.{Use, after, outcome}
 use Rattle.station_laws.specs.Laws.{SentPiece, Carried, begins, continues, UnitSent, SentInPieces}
 use Rattle.station_laws.proofs.Addresses.{Good, good_target, good_calling}
 use Rattle.station_laws.proofs.Calls.{Asked, messages_of, Sending, pieces, sending}
-use Rattle.outgoing.proofs.Pieces.{count}
 
 -- One piece reads back.
 
@@ -109,6 +108,10 @@ all_carried h n r load p k l one more most =
     let c2 = carry h n d0 (suc r) d0 r (x ∷ []) (drop (long h) load) p k (omega arith) one (omega arith) (omega arith) c in
     rw take-append-drop at c2
 
+how_many : (h : Heading) (n p : ℕ) (first : Bool) (r : ℕ) (load : List ℕ) → length (piece_messages h n p first r load) ≡ suc r
+how_many h n p first zero load = refl
+how_many h n p first (suc r) load = ap suc (how_many h n p false r (drop p load))
+
 -- The number of pieces.
 
 pub count_if : (k : Bool) (m n : ℕ) → m ≡ cond k n 0 → 1 ≤ m → (m ≡ n) × (k ≡ true)
@@ -169,7 +172,7 @@ unit_sent own code called q n r fits asked good k e l =
       good_called = good;
       good_calling = ok;
       carried = rw e1 c;
-      many = omega (arith, count h n (long h) true (suc r) q.contents);
+      many = how_many h n (long h) true (suc r) q.contents;
       fewest = num.fewest;
       least = omega arith;
       most = num.most;
