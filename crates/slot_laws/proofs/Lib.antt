@@ -1,7 +1,8 @@
 pub mod Look
+pub mod Does
 pub mod Conserve
 pub mod Time
 pub mod Splice
 pub mod Keep
-pub mod Arrive
 pub mod Single
+pub mod Arrive

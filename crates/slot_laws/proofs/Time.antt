@@ -1,77 +1,42 @@
 -- T ticks after a slot was opened, that opening is over.
-use Rattle.std.proofs.Common.{◌≡◌, ℕ, zero, suc, ◌+◌, ◌<◌, ◌≤◌, Bool, true, false, leb, ◌≢◌, ◌⊎◌, List, [], ◌∷◌, ◌++◌, map, length, get_or, set, Some, None, Option, sym, refl, ap, ◌∙◌, inl, inr, arith}
+use Rattle.std.proofs.Common.{◌≡◌, ℕ, zero, suc, ◌+◌, ◌<◌, ◌≤◌, ◌≢◌, ◌⊎◌, List, [], ◌∷◌, ◌++◌, map, length, get_or, set, sym, refl, ap, ◌∙◌, inl, inr, arith}
 use Rattle.std.proofs.lemmas.List.{get_or-set_same, get_or-set_other}
 use Rattle.std.proofs.lemmas.Bool.{cases_eq}
-use Rattle.slot_laws.specs.Machine.{Open, Slot, free, opened, whole, Receipt, Event, piece, tick, release, copy, Answer, opens, restarts, breaks, hands, Found, missing, found, look, last_free, fresh, grown, aged, Step, new_step, first_step, checked, follows_on, later_step, taken, proper, piece_step, older, age, named, receipt_for, release_step, copied_if, copy_answer, step}
-use Rattle.slot_laws.specs.Uses.{Use, counts_opened, slots_after, is_tick, tick_count, Ends, handed, broken, restarted, lapsed, Over, now_over, before, Opens, NoOpeningOutlives}
-use Rattle.slot_laws.proofs.Look.{Looks, looks, Frees, frees, named_whole}
+use Rattle.std.proofs.Math.ListN.{get_or-map}
+use Rattle.slot_laws.specs.Machine.{Open, Slot, free, opened, whole, Receipt, Event, piece, tick, release, copy, Answer, opens, restarts, breaks, hands, fresh, grown, aged, Step, older, age, receipt_for, step}
+use Rattle.slot_laws.specs.Uses.{Use, slots_after, is_tick, tick_count, Ends, handed, broken, restarted, lapsed, Over, now_over, before, Opens, NoOpeningOutlives}
+use Rattle.slot_laws.proofs.Does.{no, only, full, lost, out, Does, leaves, opening, again, breaking, adding, handing, ticking, freeing, does, untouched}
 
 -- the slot i is open, with so many ticks
-abbrev pub Runs : List Slot → ℕ → ℕ → Type 0
+abbrev Runs : List Slot → ℕ → ℕ → Type 0
 Runs ss i t = (o : Open) × (get_or ss i free ≡ opened o) × (o.ticks ≡ t)
 
 -- a step that is no tick ends the opening in the slot i, or leaves it its ticks
 abbrev Stays : ℕ → ℕ → Step → Type 0
 Stays i t p = ((r : Receipt) × (p.1 ≡ hands r) × (r.slot ≡ i)) ⊎ ((p.1 ≡ breaks i) ⊎ ((p.1 ≡ restarts i) ⊎ Runs p.0 i t))
 
--- two slots are the same, or not: a free one is not an open one
-apart : (ss : List Slot) (i j : ℕ) (o : Open) → get_or ss i free ≡ opened o → get_or ss j free ≡ free → i ≢ j
-apart ss i j o e f q = let g : get_or ss i free ≡ free = ap (λ k. get_or ss k free) q ∙ f in let z : ◌≡◌ {A = ℕ} 0 1 = cc in absurd (omega arith)
+beside : (ss : List Slot) (i j t : ℕ) (v : Slot) → i ≢ j → Runs ss i t → Runs (set ss j v) i t
+beside ss i j t v ne r = (r.0, get_or-set_other ss j i v free ne ∙ r.1, r.2)
 
-same_slot : (ss : List Slot) (i : ℕ) (o p : Open) → get_or ss i free ≡ opened o → get_or ss i free ≡ opened p → o ≡ p
-same_slot ss i o p e f = cc
-
-other : (ss : List Slot) (i j t : ℕ) (v : Slot) → i ≢ j → Runs ss i t → Runs (set ss j v) i t
-other ss i j t v ne r = (r.0, get_or-set_other ss j i v free ne ∙ r.1, r.2)
-
-kept_new : (T : ℕ) (ss : List Slot) (m : List ℕ) (r : ℕ) (d : List ℕ) (f : Option ℕ) (i t : ℕ) → Frees ss f → Runs ss i t → Stays i t (new_step T ss m r d f)
-kept_new T ss m r d None i t l k = inr (inr (inr k))
-kept_new T ss m r d (Some j) i t l k = inr (inr (inr (other ss i j t (opened (fresh T m r d)) (apart ss i j k.0 k.1 l.1) k)))
-
-kept_first : (T : ℕ) (ss : List Slot) (m : List ℕ) (r : ℕ) (d : List ℕ) (f : Found) (i t : ℕ) → Looks m ss f → Runs ss i t → Stays i t (first_step T ss m r d f)
-kept_first T ss m r d missing i t l k = kept_new T ss m r d (last_free ss) i t (frees ss) k
-kept_first T ss m r d (found j o) i t l k =
-    elim (cases_eq i j) [ inl q ↦ inr (inr (inl (ap restarts (sym q)))) | inr ne ↦ inr (inr (inr (other ss i j t (opened (fresh T m r d)) ne k))) ]
-
-kept_checked : (C : ℕ) (ss : List Slot) (j : ℕ) (o : Open) (r : ℕ) (d : List ℕ) (b : Bool) (i t : ℕ) → j < length ss → get_or ss j free ≡ opened o → Runs ss i t → Stays i t (checked C ss j o r d b)
-kept_checked C ss j o r d false i t h e k =
-    elim (cases_eq i j) [ inl q ↦ inr (inl (ap breaks (sym q))) | inr ne ↦ inr (inr (inr (other ss i j t free ne k))) ]
-kept_checked C ss j o zero d true i t h e k =
-    elim (cases_eq i j) [ inl q ↦ inl (receipt_for C j (o.octets ++ d), refl, sym q) | inr ne ↦ inr (inr (inr (other ss i j t (whole (o.octets ++ d)) ne k))) ]
-kept_checked C ss j o (suc r) d true i t h e k =
-    let v = opened (grown o (suc r) d) in
+stays : {C T : ℕ} {ss : List Slot} {e : Event} {p : Step} (i t : ℕ) → Does C T ss e p → is_tick e ≡ 0 → Runs ss i t → Stays i t p
+stays i t (leaves e a q) z k = inr (inr (inr k))
+stays {T = T} {ss = ss} i t (opening m d r j h e a) z k = inr (inr (inr (k.0, untouched ss j (opened (fresh T m r d)) i k.1 e (λ q. cc), k.2)))
+stays {T = T} {ss = ss} i t (again m d r j o h e y) z k =
+    elim (cases_eq i j) [ inl q ↦ inr (inr (inl (ap restarts (sym q)))) | inr ne ↦ inr (inr (inr (beside ss i j t (opened (fresh T m r d)) ne k))) ]
+stays {ss = ss} i t (breaking m d r j o h e y) z k =
+    elim (cases_eq i j) [ inl q ↦ inr (inl (ap breaks (sym q))) | inr ne ↦ inr (inr (inr (beside ss i j t free ne k))) ]
+stays {ss = ss} i t (adding m d r j o h e y l) z k =
+    let v = opened (grown o r d) in
     elim (cases_eq i j) [
       | inl q ↦
-          (let e' : get_or ss i free ≡ opened o = ap (λ n. get_or ss n free) q ∙ e in
-          let w : k.0 ≡ o = same_slot ss i k.0 o k.1 e' in
-          inr (inr (inr (grown o (suc r) d, ap (λ n. get_or (set ss j v) n free) q ∙ get_or-set_same ss j v free h, sym (ap (λ x. x.ticks) w) ∙ k.2))))
-      | inr ne ↦ inr (inr (inr (other ss i j t v ne k)))
+          (let w : k.0 ≡ o = (let f = k.1 in let g : get_or ss i free ≡ opened o = ap (λ n. get_or ss n free) q ∙ e in cc) in
+          inr (inr (inr (grown o r d, ap (λ n. get_or (set ss j v) n free) q ∙ get_or-set_same ss j v free h, sym (ap (λ (x : Open). x.ticks) w) ∙ k.2))))
+      | inr ne ↦ inr (inr (inr (beside ss i j t v ne k)))
     ]
-
-kept_later : (C : ℕ) (ss : List Slot) (m : List ℕ) (r : ℕ) (d : List ℕ) (f : Found) (i t : ℕ) → Looks m ss f → Runs ss i t → Stays i t (later_step C ss r d f)
-kept_later C ss m r d missing i t l k = inr (inr (inr k))
-kept_later C ss m r d (found j o) i t l k = kept_checked C ss j o r d (follows_on o r d) i t l.0 l.1 k
-
-kept_taken : (C T : ℕ) (ss : List Slot) (m : List ℕ) (f : Bool) (r : ℕ) (d : List ℕ) (i t : ℕ) → Runs ss i t → Stays i t (taken C T ss m f r d)
-kept_taken C T ss m true zero d i t k = inr (inr (inr k))
-kept_taken C T ss m true (suc r) d i t k = kept_first T ss m (suc r) d (look m ss) i t (looks m ss) k
-kept_taken C T ss m false r d i t k = kept_later C ss m r d (look m ss) i t (looks m ss) k
-
-kept_piece : (C T : ℕ) (ss : List Slot) (m : List ℕ) (f : Bool) (r : ℕ) (d : List ℕ) (b : Bool) (i t : ℕ) → Runs ss i t → Stays i t (piece_step C T ss m f r d b)
-kept_piece C T ss m f r d true i t k = kept_taken C T ss m f r d i t k
-kept_piece C T ss m f r d false i t k = inr (inr (inr k))
-
-kept_release : (ss : List Slot) (j : ℕ) (s : Slot) (i t : ℕ) → ((d : List ℕ) → s ≡ whole d → get_or ss j free ≡ whole d) → Runs ss i t → Stays i t (release_step ss j s)
-kept_release ss j free i t e k = inr (inr (inr k))
-kept_release ss j (opened o) i t e k = inr (inr (inr k))
-kept_release ss j (whole d) i t e k =
-    let ne : i ≢ j = λ q. let g : get_or ss i free ≡ whole d = ap (λ n. get_or ss n free) q ∙ e d refl in let g' = k.1 in let z : ◌≡◌ {A = ℕ} 0 1 = cc in absurd (omega arith) in
-    inr (inr (inr (other ss i j t free ne k)))
-
-pub age_at : (ss : List Slot) (i : ℕ) → get_or (map age ss) i free ≡ age (get_or ss i free)
-age_at [] i = refl
-age_at (s ∷ ss) zero = refl
-age_at (s ∷ ss) (suc i) = age_at ss i
+stays {C = C} {ss = ss} i t (handing m d j o h e y l) z k =
+    elim (cases_eq i j) [ inl q ↦ inl (receipt_for C j (o.octets ++ d), refl, sym q) | inr ne ↦ inr (inr (inr (beside ss i j t (whole (o.octets ++ d)) ne k))) ]
+stays i t ticking z k = absurd (omega arith)
+stays {ss = ss} i t (freeing q d h e) z k = inr (inr (inr (k.0, untouched ss q.slot free i k.1 e (λ f. cc), k.2)))
 
 -- an event ends the opening, or leaves it one tick less if it is a tick
 abbrev Lives : ℕ → ℕ → List Slot → ℕ → ℕ → Event → Type 0
@@ -89,78 +54,40 @@ lives_tick C T ss i t (suc zero) o h q e = inl (lapsed e)
 lives_tick C T ss i t (suc (suc v)) o h q e = inr (suc v, (aged o (suc v), e, refl), omega arith, omega arith)
 
 lives : (C T : ℕ) (ss : List Slot) (i t : ℕ) (e : Event) → 1 ≤ t → Runs ss i t → Lives C T ss i t e
-lives C T ss i t (piece m f r d) h k = lives_kept C T ss i t (piece m f r d) h refl (kept_piece C T ss m f r d (proper r d) i t k)
-lives C T ss i t tick h k = lives_tick C T ss i t k.0.ticks k.0 h k.2 (age_at ss i ∙ ap age k.1)
-lives C T ss i t (release r) h k = lives_kept C T ss i t (release r) h refl (kept_release ss r.slot (named C ss r) i t (named_whole C ss r) k)
-lives C T ss i t (copy r n) h k = lives_kept C T ss i t (copy r n) h refl (inr (inr (inr k)))
+lives C T ss i t tick h k = lives_tick C T ss i t k.0.ticks k.0 h k.2 (get_or-map age ss i free ∙ ap age k.1)
+lives C T ss i t (piece m f r d) h k = lives_kept C T ss i t _ h refl (stays i t (does C T ss (piece m f r d)) refl k)
+lives C T ss i t (release r) h k = lives_kept C T ss i t _ h refl (stays i t (does C T ss (release r)) refl k)
+lives C T ss i t (copy r n) h k = lives_kept C T ss i t _ h refl (inr (inr (inr k)))
 
 -- an opening has T ticks
-abbrev Starts : ℕ → ℕ → Step → Type 0
-Starts T i p = Opens i p.1 → Runs p.0 i T
-
-no_answer : {i : ℕ} {a : Answer} (code : Answer → ℕ) → code a ≡ 0 → code (opens i) ≡ 1 → code (restarts i) ≡ 1 → Opens i a → ⊥
-no_answer code z p q (inl e) = let f = ap code e in omega arith
-no_answer code z p q (inr e) = let f = ap code e in omega arith
-
 starts_at : (T : ℕ) (ss : List Slot) (m : List ℕ) (r : ℕ) (d : List ℕ) (i j : ℕ) → j < length ss → j ≡ i → Runs (set ss j (opened (fresh T m r d))) i T
 starts_at T ss m r d i j h q = (fresh T m r d, ap (λ n. get_or (set ss j (opened (fresh T m r d))) n free) (sym q) ∙ get_or-set_same ss j (opened (fresh T m r d)) free h, refl)
 
-opens_same : (i j : ℕ) → Opens i (opens j) → j ≡ i
-opens_same i j (inl e) = cc
-opens_same i j (inr e) = absurd (let z : ◌≡◌ {A = ℕ} 0 1 = cc in omega arith)
-
-restarts_same : (i j : ℕ) → Opens i (restarts j) → j ≡ i
-restarts_same i j (inr e) = cc
-restarts_same i j (inl e) = absurd (let z : ◌≡◌ {A = ℕ} 0 1 = cc in omega arith)
-
-starts_not : (T i : ℕ) (ss : List Slot) (a : Answer) → counts_opened a ≡ 0 → Starts T i (ss, a)
-starts_not T i ss a z x = absurd (no_answer counts_opened z refl refl x)
-
-starts_new : (T : ℕ) (ss : List Slot) (m : List ℕ) (r : ℕ) (d : List ℕ) (f : Option ℕ) (i : ℕ) → Frees ss f → Starts T i (new_step T ss m r d f)
-starts_new T ss m r d None i l x = starts_not T i ss _ refl x
-starts_new T ss m r d (Some j) i l x = starts_at T ss m r d i j l.0 (opens_same i j x)
-
-starts_first : (T : ℕ) (ss : List Slot) (m : List ℕ) (r : ℕ) (d : List ℕ) (f : Found) (i : ℕ) → Looks m ss f → Starts T i (first_step T ss m r d f)
-starts_first T ss m r d missing i l x = starts_new T ss m r d (last_free ss) i (frees ss) x
-starts_first T ss m r d (found j o) i l x = starts_at T ss m r d i j l.0 (restarts_same i j x)
-
-starts_checked : (C T : ℕ) (ss : List Slot) (j : ℕ) (o : Open) (r : ℕ) (d : List ℕ) (b : Bool) (i : ℕ) → Starts T i (checked C ss j o r d b)
-starts_checked C T ss j o r d false i = starts_not T i _ _ refl
-starts_checked C T ss j o zero d true i = starts_not T i _ _ refl
-starts_checked C T ss j o (suc r) d true i = starts_not T i _ _ refl
-
-starts_later : (C T : ℕ) (ss : List Slot) (r : ℕ) (d : List ℕ) (f : Found) (i : ℕ) → Starts T i (later_step C ss r d f)
-starts_later C T ss r d missing i = starts_not T i _ _ refl
-starts_later C T ss r d (found j o) i = starts_checked C T ss j o r d (follows_on o r d) i
-
-starts_taken : (C T : ℕ) (ss : List Slot) (m : List ℕ) (f : Bool) (r : ℕ) (d : List ℕ) (i : ℕ) → Starts T i (taken C T ss m f r d)
-starts_taken C T ss m true zero d i = starts_not T i _ _ refl
-starts_taken C T ss m true (suc r) d i = starts_first T ss m (suc r) d (look m ss) i (looks m ss)
-starts_taken C T ss m false r d i = starts_later C T ss r d (look m ss) i
-
-starts_piece : (C T : ℕ) (ss : List Slot) (m : List ℕ) (f : Bool) (r : ℕ) (d : List ℕ) (b : Bool) (i : ℕ) → Starts T i (piece_step C T ss m f r d b)
-starts_piece C T ss m f r d true i = starts_taken C T ss m f r d i
-starts_piece C T ss m f r d false i = starts_not T i _ _ refl
-
-starts_release : (T : ℕ) (ss : List Slot) (j : ℕ) (s : Slot) (i : ℕ) → Starts T i (release_step ss j s)
-starts_release T ss j free i = starts_not T i _ _ refl
-starts_release T ss j (opened o) i = starts_not T i _ _ refl
-starts_release T ss j (whole d) i = starts_not T i _ _ refl
-
-starts_copied : (T : ℕ) (ss : List Slot) (d : List ℕ) (b : Bool) (i : ℕ) → Starts T i (ss, copied_if d b)
-starts_copied T ss d true i = starts_not T i _ _ refl
-starts_copied T ss d false i = starts_not T i _ _ refl
-
-starts_copy : (T : ℕ) (ss : List Slot) (room : ℕ) (s : Slot) (i : ℕ) → Starts T i (ss, copy_answer room s)
-starts_copy T ss room free i = starts_not T i _ _ refl
-starts_copy T ss room (opened o) i = starts_not T i _ _ refl
-starts_copy T ss room (whole d) i = starts_copied T ss d (leb (length d) room) i
-
-pub starts : (C T : ℕ) (ss : List Slot) (e : Event) (i : ℕ) → Starts T i (step C T ss e)
-starts C T ss (piece m f r d) i = starts_piece C T ss m f r d (proper r d) i
-starts C T ss tick i = starts_not T i _ _ refl
-starts C T ss (release r) i = starts_release T ss r.slot (named C ss r) i
-starts C T ss (copy r room) i = starts_copy T ss room (named C ss r) i
+starts : {C T : ℕ} {ss : List Slot} {e : Event} {p : Step} (i : ℕ) → Does C T ss e p → Opens i p.1 → Runs p.0 i T
+starts {T = T} {ss = ss} i (opening m d r j h e a) (inl x) = starts_at T ss m r d i j h (cc)
+starts i (opening m d r j h e a) (inr x) = cc
+starts i (again m d r j o h e k) (inl x) = cc
+starts {T = T} {ss = ss} i (again m d r j o h e k) (inr x) = starts_at T ss m r d i j h (cc)
+starts i (leaves e a (no n)) (inl x) = cc
+starts i (leaves e a (no n)) (inr x) = cc
+starts i (leaves e a (only d)) (inl x) = cc
+starts i (leaves e a (only d)) (inr x) = cc
+starts i (leaves e a (full n)) (inl x) = cc
+starts i (leaves e a (full n)) (inr x) = cc
+starts i (leaves e a lost) (inl x) = cc
+starts i (leaves e a lost) (inr x) = cc
+starts i (leaves e a (out d)) (inl x) = cc
+starts i (leaves e a (out d)) (inr x) = cc
+starts i (breaking m d r j o h e k) (inl x) = cc
+starts i (breaking m d r j o h e k) (inr x) = cc
+starts i (adding m d r j o h e k l) (inl x) = cc
+starts i (adding m d r j o h e k l) (inr x) = cc
+starts i (handing m d j o h e k l) (inl x) = cc
+starts i (handing m d j o h e k l) (inr x) = cc
+starts i ticking (inl x) = cc
+starts i ticking (inr x) = cc
+starts i (freeing q d h e) (inl x) = cc
+starts i (freeing q d h e) (inr x) = cc
 
 -- after g the opening is over, or it has T less the ticks of g left
 abbrev Going : Use → List Event → ℕ → List Event → Type 0
@@ -183,4 +110,4 @@ must_be_over u h g i le (inl o) = o
 must_be_over u h g i le (inr l) = absurd (omega arith)
 
 pub no_opening_outlives : (u : Use) → 1 ≤ u.ticks → NoOpeningOutlives u
-no_opening_outlives u p h g e i x le = must_be_over u (e ∷ h) g i le (going u (e ∷ h) i p (starts u.code u.ticks (slots_after u h) e i x) g)
+no_opening_outlives u p h g e i x le = must_be_over u (e ∷ h) g i le (going u (e ∷ h) i p (starts i (does u.code u.ticks (slots_after u h) e) x) g)
