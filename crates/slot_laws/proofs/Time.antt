@@ -4,7 +4,7 @@ use Rattle.std.proofs.lemmas.List.{get_or-set_same, get_or-set_other}
 use Rattle.std.proofs.lemmas.Bool.{cases_eq}
 use Rattle.std.proofs.Math.ListN.{get_or-map}
 use Rattle.slot_laws.specs.Machine.{Open, Slot, free, opened, whole, Receipt, Event, piece, tick, release, copy, Answer, opens, restarts, breaks, hands, fresh, grown, aged, Step, older, age, receipt_for, step}
-use Rattle.slot_laws.specs.Uses.{Use, slots_after, is_tick, tick_count, Ends, handed, broken, restarted, lapsed, Over, now_over, before, Opens, NoOpeningOutlives}
+use Rattle.slot_laws.specs.Uses.{Use, counts_opened, slots_after, is_tick, tick_count, Ends, handed, broken, restarted, lapsed, Over, now_over, before, Opens, NoOpeningOutlives}
 use Rattle.slot_laws.proofs.Does.{no, only, full, lost, out, Does, leaves, opening, again, breaking, adding, handing, ticking, freeing, does, untouched}
 
 -- the slot i is open, with so many ticks
@@ -63,31 +63,25 @@ lives C T ss i t (copy r n) h k = lives_kept C T ss i t _ h refl (inr (inr (inr 
 starts_at : (T : ℕ) (ss : List Slot) (m : List ℕ) (r : ℕ) (d : List ℕ) (i j : ℕ) → j < length ss → j ≡ i → Runs (set ss j (opened (fresh T m r d))) i T
 starts_at T ss m r d i j h q = (fresh T m r d, ap (λ n. get_or (set ss j (opened (fresh T m r d))) n free) (sym q) ∙ get_or-set_same ss j (opened (fresh T m r d)) free h, refl)
 
+not_opened : {i : ℕ} {a : Answer} → counts_opened a ≡ 0 → Opens i a → ⊥
+not_opened z (inl e) = let f = ap counts_opened e in omega arith
+not_opened z (inr e) = let f = ap counts_opened e in omega arith
+
 starts : {C T : ℕ} {ss : List Slot} {e : Event} {p : Step} (i : ℕ) → Does C T ss e p → Opens i p.1 → Runs p.0 i T
 starts {T = T} {ss = ss} i (opening m d r j h e a) (inl x) = starts_at T ss m r d i j h (cc)
 starts i (opening m d r j h e a) (inr x) = cc
 starts i (again m d r j o h e k) (inl x) = cc
 starts {T = T} {ss = ss} i (again m d r j o h e k) (inr x) = starts_at T ss m r d i j h (cc)
-starts i (leaves e a (no n)) (inl x) = cc
-starts i (leaves e a (no n)) (inr x) = cc
-starts i (leaves e a (only d)) (inl x) = cc
-starts i (leaves e a (only d)) (inr x) = cc
-starts i (leaves e a (full n)) (inl x) = cc
-starts i (leaves e a (full n)) (inr x) = cc
-starts i (leaves e a lost) (inl x) = cc
-starts i (leaves e a lost) (inr x) = cc
-starts i (leaves e a (out d)) (inl x) = cc
-starts i (leaves e a (out d)) (inr x) = cc
-starts i (breaking m d r j o h e k) (inl x) = cc
-starts i (breaking m d r j o h e k) (inr x) = cc
-starts i (adding m d r j o h e k l) (inl x) = cc
-starts i (adding m d r j o h e k l) (inr x) = cc
-starts i (handing m d j o h e k l) (inl x) = cc
-starts i (handing m d j o h e k l) (inr x) = cc
-starts i ticking (inl x) = cc
-starts i ticking (inr x) = cc
-starts i (freeing q d h e) (inl x) = cc
-starts i (freeing q d h e) (inr x) = cc
+starts i (leaves e a (no n)) x = absurd (not_opened refl x)
+starts i (leaves e a (only d)) x = absurd (not_opened refl x)
+starts i (leaves e a (full n)) x = absurd (not_opened refl x)
+starts i (leaves e a lost) x = absurd (not_opened refl x)
+starts i (leaves e a (out d)) x = absurd (not_opened refl x)
+starts i (breaking m d r j o h e k) x = absurd (not_opened refl x)
+starts i (adding m d r j o h e k l) x = absurd (not_opened refl x)
+starts i (handing m d j o h e k l) x = absurd (not_opened refl x)
+starts i ticking x = absurd (not_opened refl x)
+starts i (freeing q d h e) x = absurd (not_opened refl x)
 
 -- after g the opening is over, or it has T less the ticks of g left
 abbrev Going : Use → List Event → ℕ → List Event → Type 0
