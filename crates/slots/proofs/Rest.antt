@@ -1,6 +1,6 @@
 -- What ticks, releases, copies and the opening do to the slots as they are seen.
-use Rattle.std.proofs.Common.{◌≡◌, ℕ, zero, suc, ◌+◌, ◌-◌, ◌*◌, ◌<◌, ◌≤◌, Bool, true, false, cond, eqb, ltb, leb, List, [], ◌∷◌, map, length, get_or, take, drop, set, replicate, Some, None, Option, is_some, OnSome, Err, count_by, sym, refl, ap, ◌∙◌, subst, arith}
-use Rattle.std.proofs.lemmas.Bool.{cond-true, and_parts, leb-true}
+use Rattle.std.proofs.Common.{◌≡◌, ℕ, zero, suc, ◌+◌, ◌-◌, ◌*◌, ◌<◌, ◌≤◌, Bool, true, false, cond, eqb, ltb, leb, List, [], ◌∷◌, ◌++◌, map, length, get_or, take, drop, set, replicate, Some, None, Option, is_some, OnSome, Ok, Err, count_by, sym, refl, ap, ◌∙◌, subst, arith, take_at}
+use Rattle.std.proofs.lemmas.Bool.{cond-true, and_parts, leb-true, le-leb, lt-leb}
 use Rattle.std.proofs.lemmas.List.{length-take-le, length-drop}
 use Rattle.std.proofs.lemmas.List.Sums.{sum_by-cons}
 use Rattle.slot_laws.specs.Machine as law
@@ -8,12 +8,12 @@ use Rattle.timed_table.specs.declared.entry.Entry.{Entry}
 use Rattle.timed_table.specs.declared.entry.Entry.TheVariants.{Free, Timed, Held}
 use Rattle.timed_table.specs.Table.{ticked, lapses, is_timed, held_load}
 use Rattle.slot_parts.specs.declared.load.Load.{Load}
-use Rattle.slot_parts.specs.declared.refusals.CopyRefusal.TheVariants.{NotWhole}
+use Rattle.slot_parts.specs.declared.refusals.CopyRefusal.TheVariants.{NotWhole, BufferShort}
 use Rattle.slots.specs.declared.alone.Slots.{Slots}
 use Rattle.slots.specs.Loads.{entry_ok}
 use Rattle.slots.specs.Became.{Became}
 use Rattle.slots.specs.Pieces.{named_load}
-use Rattle.slots.specs.View.{view, view_from, view_one, copy_told}
+use Rattle.slots.specs.View.{view, view_from, view_one, copy_told, copy_out}
 use Rattle.slots.proofs.Loads.{all_ok_at}
 use Rattle.slots.proofs.Sim.{get_view, set_view, became_view}
 
@@ -156,3 +156,28 @@ module _ {K : Type 0} (numbers : K → List ℕ) where
       let h : l.len ≤ 3952 = held_short (eqb r.code C) (get_or s.table.entries.now i Free) l (all_ok_at s.table.entries.now i p.2) e in
       let d : length (drop (i * 3952) s.store.octets.now) ≡ length s.store.octets.now - i * 3952 = length-drop (i * 3952) s.store.octets.now in
       (omega arith, omega arith, length-take-le l.len (drop (i * 3952) s.store.octets.now) (omega arith))
+
+  -- what a copy of a unit gives, from what is kept of its slot
+  pub record Copied (s : Slots K) (C : ℕ) (r : law.Receipt) (l : Load) (buffer : List ℕ) : Type 0 where
+    pub fits : r.slot * 3952 + l.len ≤ length s.store.octets.now
+    pub low : r.slot < 16
+    pub short : length buffer < l.len → (copy_told (law.named C (view numbers s) r) (length buffer) ≡ Err BufferShort) × (law.copy_answer (length buffer) (law.named C (view numbers s) r) ≡ law.declined 52)
+    pub told : l.len ≤ length buffer → copy_told (law.named C (view numbers s) r) (length buffer) ≡ Ok l.len
+    pub answer : l.len ≤ length buffer → law.copy_answer (length buffer) (law.named C (view numbers s) r) ≡ law.copied (take l.len (take l.len (drop (r.slot * 3952) s.store.octets.now) ++ drop l.len buffer))
+    pub filled : copy_out (law.named C (view numbers s) r) (Ok l.len) buffer ≡ take l.len (drop (r.slot * 3952) s.store.octets.now) ++ drop l.len buffer
+
+  pub copied : (s : Slots K) (C : ℕ) (r : law.Receipt) (l : Load) (buffer : List ℕ) (o : Option Load) → o ≡ Some l → o ≡ named_load C r s.table.entries.now → OnSome o (r.slot < length s.table.entries.now) → Copied s C r l buffer
+  copied s C r l buffer o e v b =
+      let w = is_whole s C r l (sym e ∙ v) in
+      let i = within s C r l (ok_in o l _ e b) (sym e ∙ v) in
+      let u = take l.len (drop (r.slot * 3952) s.store.octets.now) in
+      let k : length u ≡ l.len = i.2 in
+      let n = length buffer in
+      record {
+        fits = i.1;
+        low = i.0;
+        short = λ h. rw (w, lt-leb (length u) n (omega arith)) (refl, refl);
+        told = λ h. rw (w, le-leb (length u) n (omega arith)) (ap Ok k);
+        answer = λ h. rw (w, le-leb (length u) n (omega arith), take_at u (drop l.len buffer) l.len k) refl;
+        filled = rw w refl;
+      }
