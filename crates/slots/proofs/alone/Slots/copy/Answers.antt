@@ -6,47 +6,33 @@ use Rattle.slots.specs.Answers.{receipt_of, copy_reply}
 use Rattle.slots.proofs.Rest.{not_whole, copied}
 use Rattle.slots.proofs.alone.Slots.copy.Goals as goal
 
-pub returns-in_err-load-clause-value : goal.returns-in_err-load-clause-value
-returns-in_err-load-clause-value g c =
+pub returns-in_err-load : goal.returns-in_err-load
+returns-in_err-load g c =
+    let s = c.args.self.now in
     let e : c.whole_at.result ≡ None = c.ok_or.ensures.ok_part ∙ ap result_ok c.in_err-load.was in
-    let w = not_whole g.K.Mark.numbers c.args.self.now c.args.self.now.settings.code (receipt_of c.args.receipt.now) (sym e ∙ c.whole_at.ensures.value) in
+    let w = not_whole g.K.Mark.numbers s s.settings.code (receipt_of c.args.receipt.now) (sym e ∙ c.whole_at.ensures.value) in
     let r : c.from_residual.result ≡ Err NotWhole = search rules in
-    r ∙ sym (w.1 (length c.args.buffer.now))
+    record { value = r ∙ sym (w.1 (length c.args.buffer.now)); filled = search rules; answer = ap (λ x. copy_reply x c.args.buffer.now) r ∙ sym (w.2 (length c.args.buffer.now)) }
 
-pub returns-in_err-load-clause-answer : goal.returns-in_err-load-clause-answer
-returns-in_err-load-clause-answer g c =
-    let e : c.whole_at.result ≡ None = c.ok_or.ensures.ok_part ∙ ap result_ok c.in_err-load.was in
-    let w = not_whole g.K.Mark.numbers c.args.self.now c.args.self.now.settings.code (receipt_of c.args.receipt.now) (sym e ∙ c.whole_at.ensures.value) in
-    let r : c.from_residual.result ≡ Err NotWhole = search rules in
-    ap (λ x. copy_reply x c.args.buffer.now) r ∙ sym (w.2 (length c.args.buffer.now))
+pub returns-then-buffer-n : goal.returns-then-buffer-n
+returns-then-buffer-n g c =
+    let s = c.args.self.now in
+    let w = copied g.K.Mark.numbers s s.settings.code (receipt_of c.args.receipt.now) c.in_ok-load.load c.args.buffer.now _ (c.ok_or.ensures.ok_part ∙ ap result_ok c.in_ok-load.was) c.whole_at.ensures.value c.whole_at.ensures.bound in
+    record { value = sym (w.short (omega arith)).0; filled = search rules; answer = sym (w.short (omega arith)).1 }
 
-pub returns-then-buffer-n-clause-value : goal.returns-then-buffer-n-clause-value
-returns-then-buffer-n-clause-value g c =
-    let w = copied g.K.Mark.numbers c.args.self.now c.args.self.now.settings.code (receipt_of c.args.receipt.now) c.in_ok-load.load c.args.buffer.now _ (c.ok_or.ensures.ok_part ∙ ap result_ok c.in_ok-load.was) c.whole_at.ensures.value c.whole_at.ensures.bound in
-    sym (w.short (omega arith)).0
-
-pub returns-then-buffer-n-clause-answer : goal.returns-then-buffer-n-clause-answer
-returns-then-buffer-n-clause-answer g c =
-    let w = copied g.K.Mark.numbers c.args.self.now c.args.self.now.settings.code (receipt_of c.args.receipt.now) c.in_ok-load.load c.args.buffer.now _ (c.ok_or.ensures.ok_part ∙ ap result_ok c.in_ok-load.was) c.whole_at.ensures.value c.whole_at.ensures.bound in
-    sym (w.short (omega arith)).1
-
-pub returns-clause-value : goal.returns-clause-value
-returns-clause-value g c =
-    let w = copied g.K.Mark.numbers c.args.self.now c.args.self.now.settings.code (receipt_of c.args.receipt.now) c.in_ok-load.load c.args.buffer.now _ (c.ok_or.ensures.ok_part ∙ ap result_ok c.in_ok-load.was) c.whole_at.ensures.value c.whole_at.ensures.bound in
-    sym (w.told (omega arith))
-
-pub returns-clause-filled : goal.returns-clause-filled
-returns-clause-filled g c =
-    let w = copied g.K.Mark.numbers c.args.self.now c.args.self.now.settings.code (receipt_of c.args.receipt.now) c.in_ok-load.load c.args.buffer.now _ (c.ok_or.ensures.ok_part ∙ ap result_ok c.in_ok-load.was) c.whole_at.ensures.value c.whole_at.ensures.bound in
-    c.read.ensures ∙ sym w.filled
-
-pub returns-clause-answer : goal.returns-clause-answer
-returns-clause-answer g c =
-    let w = copied g.K.Mark.numbers c.args.self.now c.args.self.now.settings.code (receipt_of c.args.receipt.now) c.in_ok-load.load c.args.buffer.now _ (c.ok_or.ensures.ok_part ∙ ap result_ok c.in_ok-load.was) c.whole_at.ensures.value c.whole_at.ensures.bound in
-    ap (λ x. law.copied (take c.in_ok-load.load.len x)) c.read.ensures ∙ sym (w.answer (omega arith))
+pub returns : goal.returns
+returns g c =
+    let s = c.args.self.now in
+    let w = copied g.K.Mark.numbers s s.settings.code (receipt_of c.args.receipt.now) c.in_ok-load.load c.args.buffer.now _ (c.ok_or.ensures.ok_part ∙ ap result_ok c.in_ok-load.was) c.whole_at.ensures.value c.whole_at.ensures.bound in
+    record {
+      value = sym (w.told (omega arith));
+      filled = c.read.ensures ∙ sym w.filled;
+      answer = ap (λ x. law.copied (take c.in_ok-load.load.len x)) c.read.ensures ∙ sym (w.answer (omega arith));
+    }
 
 pub read-requires : goal.read-requires
 read-requires g c =
-    let w = copied g.K.Mark.numbers c.args.self.now c.args.self.now.settings.code (receipt_of c.args.receipt.now) c.in_ok-load.load c.args.buffer.now _ (c.ok_or.ensures.ok_part ∙ ap result_ok c.in_ok-load.was) c.whole_at.ensures.value c.whole_at.ensures.bound in
+    let s = c.args.self.now in
+    let w = copied g.K.Mark.numbers s s.settings.code (receipt_of c.args.receipt.now) c.in_ok-load.load c.args.buffer.now _ (c.ok_or.ensures.ok_part ∙ ap result_ok c.in_ok-load.was) c.whole_at.ensures.value c.whole_at.ensures.bound in
     let f = w.fits in
     omega arith
