@@ -17,6 +17,7 @@ use timed_table::mark::Mark;
 
 impl<'a, K: Mark + Drop> Slots<'a, K> {
     // One tick: takes one from every open slot and frees those at 0. Answers how many lapsed.
+    #[tactic(auto, using(crate::proofs::Rest::lapse_counted, crate::proofs::Rest::aged))]
     pub fn tick(&mut self) -> usize
         ensures answer { lapses_answer result ≡ (step_of K.numbers self.old tick_event).1 }
         ensures seen { view K.numbers self.new ≡ (step_of K.numbers self.old tick_event).0 }
@@ -27,6 +28,7 @@ impl<'a, K: Mark + Drop> Slots<'a, K> {
     }
 
     // How many slots are open, counted from the records.
+    #[tactic(auto, using(crate::proofs::Rest::counted))]
     pub fn open_slots(&self) -> usize
         ensures value { result ≡ count_by is_timed self.now.table.entries.now }
         ensures seen { result ≡ open_count (view K.numbers self.now) }

@@ -25,6 +25,7 @@ use timed_table::mark::Mark;
 
 impl<'a, K: Mark + Drop> Slots<'a, K> {
     // The slot that is open under a mark.
+    #[tactic(auto, using(crate::proofs::Loads::found_within))]
     pub(crate) fn find_open(&self, key: &K) -> Option<OpenSlot>
         ensures value { result ≡ found_of (first_from (timed_as K.numbers (K.numbers key.now)) 0 self.now.table.entries.now) self.now.table.entries.now }
         ensures within { Within result }
