@@ -6,6 +6,7 @@ ghost use Rattle.slot_laws.specs.Figures.{AfterNineTicks, AfterTenTicks, FourMor
 ghost use Rattle.slot_laws.specs.Uses.{Use, OneSender, Kept, ArrivesEntire, Account, NoOpeningOutlives, DeclinedAltersNothing, StrangeReceipts, OneOpenEach};
 
 // Names the laws, so that each of them is checked. Any number of slots, any code, and any ticks (1 or more for the law of time).
+#[tactic(auto, using(crate::proofs::Conserve::account, crate::proofs::Time::no_opening_outlives, crate::proofs::Keep::one_sender, crate::proofs::Keep::kept, crate::proofs::Arrive::arrives_entire, crate::proofs::Single::one_open_each))]
 pub fn laws_hold()
     ensures sender { (u : Use) → OneSender u }
     ensures kept { (u : Use) → Kept u }
