@@ -18,6 +18,7 @@ impl<'a, K: Mark + Drop> Slots<'a, K> {
     // Slots over lent records and a lent store: as many as the least of the records, of the stretches of 3,952 octets in the store,
     // and of 16, all free. Records beyond them stay as they are, and no octet of the store is written. Every use that begins here has
     // the laws, whatever is called with whatever is given.
+    #[tactic(auto, using(slot_laws::proofs::Conserve::account, slot_laws::proofs::Time::no_opening_outlives, slot_laws::proofs::Keep::one_sender, slot_laws::proofs::Keep::kept, slot_laws::proofs::Arrive::arrives_entire, slot_laws::proofs::Single::one_open_each))]
     pub fn open(
         settings: Settings,
         records: &'a mut [Entry<K, Load>],
