@@ -67,9 +67,9 @@ adds_one (ended k) i j p q = absurd p
 adds_one nothing i j p q = absurd p
 
 in_trail : (a : Deed) (n i x : ℕ) (t : List ℕ) → Mem x (trail_step a n i t) → ((x ≡ n) × Adds a i) ⊎ Mem x t
-in_trail (begun j) n i x t m = elim (mem_pick x (eqb i j) (n ∷ []) t m) [ inl p ↦ (elim p.1 [ inl q ↦ inl (q, eqb-true i j p.0) | inr q ↦ absurd q ]) | inr p ↦ inr p.1 ]
-in_trail (added j) n i x t m = elim (mem_pick x (eqb i j) (n ∷ t) t m) [ inl p ↦ (elim p.1 [ inl q ↦ inl (q, eqb-true i j p.0) | inr q ↦ inr q ]) | inr p ↦ inr p.1 ]
-in_trail (ended j) n i x t m = elim (mem_pick x (eqb i j) [] t m) [ inl p ↦ absurd p.1 | inr p ↦ inr p.1 ]
+in_trail (begun j) n i x t m = grind (arith, mem_pick, eqb-true)
+in_trail (added j) n i x t m = grind (arith, mem_pick, eqb-true)
+in_trail (ended j) n i x t m = grind (arith, mem_pick, eqb-true)
 in_trail nothing n i x t m = inr m
 
 trail_low : (U : Use) (h : List Event) (i x : ℕ) → Mem x (trail U h i) → x < length h
@@ -80,18 +80,7 @@ trail_low U (e ∷ h) i x m =
 -- two slots share no piece
 trails_apart : (U : Use) (h : List Event) (i j x : ℕ) → i ≢ j → Mem x (trail U h i) → Mem x (trail U h j) → ⊥
 trails_apart U [] i j x ne p q = p
-trails_apart U (e ∷ h) i j x ne p q =
-    let a = deed (answer_to U h e) in
-    elim (in_trail a (length h) i x (trail U h i) p) [
-      | inl u ↦ (elim (in_trail a (length h) j x (trail U h j) q) [
-        | inl v ↦ ne (adds_one a i j u.1 v.1)
-        | inr v ↦ omega (arith, u.0, trail_low U h j x v)
-      ])
-      | inr u ↦ (elim (in_trail a (length h) j x (trail U h j) q) [
-        | inl v ↦ omega (arith, v.0, trail_low U h i x u)
-        | inr v ↦ trails_apart U h i j x ne u v
-      ])
-    ]
+trails_apart U (e ∷ h) i j x ne p q = grind (arith, in_trail (deed (answer_to U h e)) (length h) i x (trail U h i) p, in_trail (deed (answer_to U h e)) (length h) j x (trail U h j) q, adds_one (deed (answer_to U h e)) i j, trail_low U h i x, trail_low U h j x, trails_apart U h i j x ne)
 
 -- what a new unit has
 in_unit : (a : Deed) (n x : ℕ) (t : ℕ → List ℕ) → Mem x (unit a n t) → (j : ℕ) × (a ≡ ended j) × ((x ≡ n) ⊎ Mem x (t j))
@@ -147,11 +136,7 @@ unit_old U h a l x p q =
 no_two : (U : Use) (h : List Event) (k l x : ℕ) → Mem x (members U h k) → Mem x (members U h l) → k ≡ l
 no_two U [] k l x p q = absurd p
 no_two U (e ∷ h) k l x p q =
-    let a = deed (answer_to U h e) in
-    elim (in_members U h e k x p) [
-      | inl u ↦ (elim (in_members U h e l x q) [ inl v ↦ u.0 ∙ sym v.0 | inr v ↦ absurd (unit_old U h a l x u.1 v) ])
-      | inr u ↦ (elim (in_members U h e l x q) [ inl v ↦ absurd (unit_old U h a k x v.1 u) | inr v ↦ no_two U h k l x u v ])
-    ]
+    grind (arith, in_members U h e k x p, in_members U h e l x q, unit_old U h (deed (answer_to U h e)) l x, unit_old U h (deed (answer_to U h e)) k x, no_two U h k l x)
 
 -- a slot that is open after a tick was open before, with the same pieces
 abbrev Elder : Slot → Open → Type 0
