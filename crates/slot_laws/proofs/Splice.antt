@@ -74,8 +74,7 @@ in_trail nothing n i x t m = inr m
 
 trail_low : (U : Use) (h : List Event) (i x : ℕ) → Mem x (trail U h i) → x < length h
 trail_low U [] i x m = absurd m
-trail_low U (e ∷ h) i x m =
-    elim (in_trail (deed (answer_to U h e)) (length h) i x (trail U h i) m) [ inl p ↦ omega (arith, p.0) | inr q ↦ omega (arith, trail_low U h i x q) ]
+trail_low U (e ∷ h) i x m = grind (arith, in_trail (deed (answer_to U h e)) (length h) i x (trail U h i) m, trail_low U h i x)
 
 -- two slots share no piece
 trails_apart : (U : Use) (h : List Event) (i j x : ℕ) → i ≢ j → Mem x (trail U h i) → Mem x (trail U h j) → ⊥
@@ -90,27 +89,21 @@ in_unit (ended j) n x t m = (j, refl, m)
 in_unit nothing n x t m = absurd m
 
 in_members : (U : Use) (h : List Event) (e : Event) (k x : ℕ) → Mem x (members U (e ∷ h) k) → ((k ≡ length h) × Mem x (unit (deed (answer_to U h e)) (length h) (trail U h))) ⊎ Mem x (members U h k)
-in_members U h e k x m =
-    elim (mem_pick x (eqb k (length h)) (unit (deed (answer_to U h e)) (length h) (trail U h)) (members U h k) m) [
-      | inl p ↦ inl (eqb-true k (length h) p.0, p.1)
-      | inr p ↦ inr p.1
-    ]
+in_members U h e k x m = grind (arith, mem_pick x (eqb k (length h)) (unit (deed (answer_to U h e)) (length h) (trail U h)) (members U h k) m, eqb-true)
 
 unit_low : (U : Use) (h : List Event) (a : Deed) (x : ℕ) → Mem x (unit a (length h) (trail U h)) → x ≤ length h
-unit_low U h a x m =
-    let u = in_unit a (length h) x (trail U h) m in
-    elim u.2 [ inl q ↦ omega arith | inr q ↦ omega (arith, trail_low U h u.0 x q) ]
+unit_low U h a x m = let u = in_unit a (length h) x (trail U h) m in let l = trail_low U h u.0 x in grind (arith, u.2)
 
 members_low : (U : Use) (h : List Event) (k x : ℕ) → Mem x (members U h k) → x < length h
 members_low U [] k x m = absurd m
-members_low U (e ∷ h) k x m =
-    elim (in_members U h e k x m) [ inl p ↦ omega (arith, unit_low U h (deed (answer_to U h e)) x p.1) | inr q ↦ omega (arith, members_low U h k x q) ]
+members_low U (e ∷ h) k x m = grind (arith, in_members U h e k x m, unit_low U h (deed (answer_to U h e)) x, members_low U h k x)
 
 -- after a unit is handed up, its slot has none of its pieces
 emptied : (a : Deed) (n i j x : ℕ) (t : List ℕ) → a ≡ ended j → Mem x (trail_step a n i t) → (i ≢ j) × Mem x t
-emptied a n i j x t e m =
-    let m' : Mem x (cond (eqb i j) [] t) = subst (λ (b : Deed). Mem x (trail_step b n i t)) e m in
-    elim (mem_pick x (eqb i j) [] t m') [ inl p ↦ absurd p.1 | inr p ↦ (eqb-false i j p.0, p.1) ]
+emptied (begun k) n i j x t e m = cc
+emptied (added k) n i j x t e m = cc
+emptied nothing n i j x t e m = cc
+emptied (ended k) n i j x t e m = grind (arith, mem_pick x (eqb i k) [] t m, eqb-false)
 
 -- no piece of a unit is in a slot
 unit_trail : (U : Use) (h : List Event) (k j x : ℕ) → Mem x (members U h k) → Mem x (trail U h j) → ⊥
@@ -121,17 +114,12 @@ unit_trail U (e ∷ h) k j x p q =
       | inl u ↦
           (let w = in_unit a (length h) x (trail U h) u.1 in
           let v = emptied a (length h) j w.0 x (trail U h j) w.1 q in
-          elim w.2 [ inl z ↦ omega (arith, z, trail_low U h j x v.1) | inr z ↦ trails_apart U h j w.0 x v.0 v.1 z ])
-      | inr u ↦ (elim (in_trail a (length h) j x (trail U h j) q) [
-        | inl v ↦ omega (arith, v.0, members_low U h k x u)
-        | inr v ↦ unit_trail U h k j x u v
-      ])
+          grind (arith, w.2, trail_low U h j x v.1, trails_apart U h j w.0 x v.0 v.1))
+      | inr u ↦ grind (arith, in_trail a (length h) j x (trail U h j) q, members_low U h k x u, unit_trail U h k j x u)
     ]
 
 unit_old : (U : Use) (h : List Event) (a : Deed) (l x : ℕ) → Mem x (unit a (length h) (trail U h)) → Mem x (members U h l) → ⊥
-unit_old U h a l x p q =
-    let w = in_unit a (length h) x (trail U h) p in
-    elim w.2 [ inl z ↦ omega (arith, z, members_low U h l x q) | inr z ↦ unit_trail U h l w.0 x q z ]
+unit_old U h a l x p q = let w = in_unit a (length h) x (trail U h) p in grind (arith, w.2, members_low U h l x q, unit_trail U h l w.0 x q)
 
 no_two : (U : Use) (h : List Event) (k l x : ℕ) → Mem x (members U h k) → Mem x (members U h l) → k ≡ l
 no_two U [] k l x p q = absurd p
