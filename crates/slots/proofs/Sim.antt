@@ -2,8 +2,10 @@
 use Rattle.std.proofs.Common.{◌≡◌, ℕ, zero, suc, ◌+◌, ◌-◌, ◌*◌, ◌<◌, ◌≤◌, min, Bool, true, false, cond, not, ◌&&◌, ◌||◌, eqb, ltb, leb, ◌≢◌, ◌⊎◌, List, [], ◌∷◌, ◌++◌, length, get_or, take, drop, set, Some, None, Option, sym, refl, ap, ◌∙◌, subst, inl, inr, ⊎_elim, arith}
 use Rattle.slots.specs.declared.alone.Slots.{Slots}
 use Rattle.slots.specs.Became.{Became}
-use Rattle.std.proofs.lemmas.Bool.{and_parts, leb-true}
-use Rattle.std.proofs.lemmas.List.{take-append-le, length-take-le, length-drop, length-append, drop-append-le, drop-take, take-take, drop-drop}
+use Rattle.std.proofs.lemmas.Bool.{and_parts, leb-true, cases_lt}
+use borrow.Rule.Slice.PartMut.{put_mid}
+use Rattle.std.proofs.lemmas.Slice.{take-put_mid, take-put_mid_below, drop-put_mid}
+use Rattle.std.proofs.lemmas.List.{length-take-le, length-drop, length-append, drop-append-le, drop-take, drop-drop}
 use Rattle.slot_laws.specs.Machine as law
 use Rattle.timed_table.specs.declared.entry.Entry.{Entry}
 use Rattle.timed_table.specs.declared.entry.Entry.TheVariants.{Free, Timed, Held}
@@ -151,65 +153,32 @@ module _ {K : Type 0} (numbers : K → List ℕ) where
       cc
 
 -- a copy into a stretch
-drop_past : (n : ℕ) (xs ys : List ℕ) → length xs ≤ n → drop n (xs ++ ys) ≡ drop (n - length xs) ys
-drop_past n [] ys h = ap (λ k. drop k ys) (omega arith)
-drop_past zero (x ∷ xs) ys h = absurd (omega arith)
-drop_past (suc n) (x ∷ xs) ys h = drop_past n xs ys (omega arith) ∙ ap (λ k. drop k ys) (omega arith)
-
-take_two : (xs ys zs : List ℕ) (n : ℕ) → n ≡ length xs + length ys → take n (xs ++ (ys ++ zs)) ≡ xs ++ ys
-take_two [] [] zs n e = let z : n ≡ 0 = omega arith in ap (λ k. take k zs) z
-take_two [] (y ∷ ys) zs zero e = absurd (omega arith)
-take_two [] (y ∷ ys) zs (suc n) e = ap (λ l. y ∷ l) (take_two [] ys zs n (omega arith))
-take_two (x ∷ xs) ys zs zero e = absurd (omega arith)
-take_two (x ∷ xs) ys zs (suc n) e = ap (λ l. x ∷ l) (take_two xs ys zs n (omega arith))
-
-two_ways : (k a : ℕ) → k ≢ a → (k < a) ⊎ (a < k)
-two_ways zero zero ne = absurd (ne refl)
-two_ways zero (suc a) ne = inl (omega arith)
-two_ways (suc k) zero ne = inr (omega arith)
-two_ways (suc k) (suc a) ne = ⊎_elim (λ (l : k < a). inl (omega arith)) (λ (l : a < k). inr (omega arith)) (two_ways k a (λ e. ne (ap suc e)))
-
 module _ (a c : ℕ) (ys os : List ℕ) (within : c + length ys ≤ 3952) (room : (a + 1) * 3952 ≤ length os) where
+  abbrev after : List ℕ
+  after = put_mid (a * 3952 + c) (length ys) os ys
+
+  after-is : overwritten (a * 3952 + c) ys os ≡ after
+  after-is = ap (λ z. take (a * 3952 + c) os ++ (ys ++ z)) (sym (drop-drop (length ys) (a * 3952 + c) os))
+
   own_stretch : (n : ℕ) → n ≡ c + length ys → take n (drop (a * 3952) (overwritten (a * 3952 + c) ys os)) ≡ take c (drop (a * 3952) os) ++ ys
   own_stretch n e =
       let p = a * 3952 in
-      let r = ys ++ drop (p + c + length ys) os in
-      let l1 : length (take (p + c) os) ≡ p + c = length-take-le (p + c) os (omega arith) in
-      let l2 : length (drop p os) ≡ length os - p = length-drop p os in
-      let l3 : length (take c (drop p os)) ≡ c = length-take-le c (drop p os) (omega arith) in
-      ap (take n) (drop-append-le p (take (p + c) os) r (omega arith) ∙ ap (λ x. x ++ r) (drop-take p c os))
-      ∙ take_two (take c (drop p os)) ys (drop (p + c + length ys) os) n (omega arith)
-
-  below : (k n : ℕ) → k < a → n ≤ 3952 → take n (drop (k * 3952) (overwritten (a * 3952 + c) ys os)) ≡ take n (drop (k * 3952) os)
-  below k n lt small =
-      let p = k * 3952 in
-      let b = a * 3952 + c in
-      let r = ys ++ drop (b + length ys) os in
-      let m = b - p in
-      let e : b ≡ p + m = omega arith in
-      let l1 : length (take b os) ≡ b = length-take-le b os (omega arith) in
-      let l2 : length (drop p (take b os)) ≡ length (take b os) - p = length-drop p (take b os) in
-      ap (take n) (drop-append-le p (take b os) r (omega arith))
-      ∙ take-append-le n (drop p (take b os)) r (omega arith)
-      ∙ ap (λ x. take n (drop p (take x os))) e
-      ∙ ap (take n) (drop-take p m os)
-      ∙ take-take n m (drop p os) (omega arith)
-
-  above : (k n : ℕ) → a < k → take n (drop (k * 3952) (overwritten (a * 3952 + c) ys os)) ≡ take n (drop (k * 3952) os)
-  above k n lt =
-      let p = k * 3952 in
-      let b = a * 3952 + c in
-      let z = drop (b + length ys) os in
-      let l1 : length (take b os) ≡ b = length-take-le b os (omega arith) in
-      ap (take n)
-      (drop_past p (take b os) (ys ++ z) (omega arith)
-      ∙ ap (λ x. drop x (ys ++ z)) (ap (λ x. p - x) l1)
-      ∙ drop_past (p - b) ys z (omega arith)
-      ∙ drop-drop (p - b - length ys) (b + length ys) os
-      ∙ ap (λ x. drop x os) (omega arith))
+      let l : length (take (p + c) os) ≡ p + c = length-take-le (p + c) os (omega arith) in
+      ap (λ x. take n (drop p x)) after-is
+      ∙ sym (drop-take p n after)
+      ∙ ap (drop p) (take-put_mid (p + c) (length ys) os ys (p + n) (omega arith) (omega arith))
+      ∙ drop-append-le p (take (p + c) os) ys (omega arith)
+      ∙ ap (λ x. x ++ ys) (drop-take p c os)
 
   same_but : (k n : ℕ) → k ≢ a → n ≤ 3952 → take n (drop (k * 3952) (overwritten (a * 3952 + c) ys os)) ≡ take n (drop (k * 3952) os)
-  same_but k n ne small = elim (two_ways k a ne) [ inl lt ↦ below k n lt small | inr gt ↦ above k n gt ]
+  same_but k n ne small =
+      let p = k * 3952 in
+      let b = a * 3952 + c in
+      ap (λ x. take n (drop p x)) after-is
+      ∙ elim (cases_lt k a) [
+        | inl lt ↦ sym (drop-take p n after) ∙ ap (drop p) (take-put_mid_below b (length ys) os ys (p + n) (omega arith) (omega arith)) ∙ drop-take p n os
+        | inr le ↦ ap (take n) (drop-put_mid b (length ys) os ys p (let l : a < k = omega arith in omega arith) (omega arith) refl)
+      ]
 
 -- the law's step, with the slot that is found
 abbrev taken_at : ℕ → ℕ → List law.Slot → List ℕ → Bool → ℕ → List ℕ → law.Found → law.Step
