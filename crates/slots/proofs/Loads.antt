@@ -15,13 +15,13 @@ use Rattle.slots.specs.Pieces.{found_entry, slots_of}
 module _ {K : Type 0} where
   pub all_ok_set : (es : List (Entry K Load)) (i : ℕ) (e : Entry K Load) → all_ok es ≡ true → entry_ok e ≡ true → all_ok (set es i e) ≡ true
   all_ok_set [] i e h k = refl
-  all_ok_set (x ∷ xs) zero e h k = and_from (entry_ok e) (all_ok xs) k (and_parts (entry_ok x) (all_ok xs) h).1
-  all_ok_set (x ∷ xs) (suc i) e h k = and_from (entry_ok x) (all_ok (set xs i e)) (and_parts (entry_ok x) (all_ok xs) h).0 (all_ok_set xs i e (and_parts (entry_ok x) (all_ok xs) h).1 k)
+  all_ok_set (x ∷ xs) zero e h k = grind (arith)
+  all_ok_set (x ∷ xs) (suc i) e h k = grind (arith, all_ok_set xs i e)
 
   pub all_ok_at : (es : List (Entry K Load)) (i : ℕ) → all_ok es ≡ true → entry_ok (get_or es i Free) ≡ true
   all_ok_at [] i h = refl
-  all_ok_at (x ∷ xs) zero h = (and_parts (entry_ok x) (all_ok xs) h).0
-  all_ok_at (x ∷ xs) (suc i) h = all_ok_at xs i (and_parts (entry_ok x) (all_ok xs) h).1
+  all_ok_at (x ∷ xs) zero h = grind (arith)
+  all_ok_at (x ∷ xs) (suc i) h = grind (arith, all_ok_at xs i)
 
   pub reloaded_ok : (load : Load) (e : Entry K Load) → entry_ok e ≡ true → load_ok load ≡ true → entry_ok (reloaded load e) ≡ true
   reloaded_ok load Free h k = refl
@@ -29,7 +29,11 @@ module _ {K : Type 0} where
   reloaded_ok load (Held old) h k = h
 
 pub grows_ok : {slot : ℕ} {load : Load} {k n : ℕ} → Grows slot load k n → load_ok load ≡ true
-grows_ok {load = load} h = and_from (leb load.len load.limit) (leb load.limit 3952) (le-leb _ _ h.short) (le-leb _ _ h.stretch)
+grows_ok {load = load} h = let a : load.len ≤ load.limit = h.short in let b : load.limit ≤ 3952 = h.stretch in grind (arith)
+
+-- the bounds that a load has
+pub load_bounds : (load : Load) → load_ok load ≡ true → (load.len ≤ load.limit) × (load.limit ≤ 3952)
+load_bounds load h = (grind (arith), grind (arith))
 
 -- the load of a slot that is timed
 module _ {K : Type 0} (slot : ℕ) (load : Load) where
@@ -37,8 +41,7 @@ module _ {K : Type 0} (slot : ℕ) (load : Load) where
   timed_within Free h t = cc
   timed_within (Timed key ticks l) h t =
       let e : l ≡ load = cc in
-      let p = and_parts (leb l.len l.limit) (leb l.limit 3952) h in
-      subst (λ (m : Load). (m.len ≤ m.limit) × (m.limit ≤ 3952)) e (leb-true _ _ p.0, leb-true _ _ p.1)
+      subst (λ (m : Load). (m.len ≤ m.limit) × (m.limit ≤ 3952)) e (load_bounds l h)
   timed_within (Held l) h t = cc
 
   pub found_within : (es : List (Entry K Load)) → all_ok es ≡ true → timed_load (get_or es slot Free) ≡ Some load → (load.len ≤ load.limit) × (load.limit ≤ 3952)
@@ -65,9 +68,7 @@ module _ {K : Type 0} where
 
   all_ok_ticked : (es : List (Entry K Load)) → all_ok es ≡ true → all_ok (map ticked es) ≡ true
   all_ok_ticked [] h = refl
-  all_ok_ticked (e ∷ es) h =
-      let p = and_parts (entry_ok e) (all_ok es) h in
-      and_from (entry_ok (ticked e)) (all_ok (map ticked es)) (ticked_ok e p.0) (all_ok_ticked es p.1)
+  all_ok_ticked (e ∷ es) h = grind (arith, ticked_ok e, all_ok_ticked es)
 
   -- the bounds on the slots after a tick
   pub tick_keeps : (es es' : List (Entry K Load)) (os : List ℕ) → es' ≡ map ticked es → Sound es os → Sound es' os

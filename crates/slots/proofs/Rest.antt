@@ -14,7 +14,7 @@ use Rattle.slots.specs.Loads.{entry_ok}
 use Rattle.slots.specs.Became.{Became}
 use Rattle.slots.specs.Pieces.{named_load}
 use Rattle.slots.specs.View.{view, view_from, view_one, copy_told, copy_out}
-use Rattle.slots.proofs.Loads.{all_ok_at}
+use Rattle.slots.proofs.Loads.{all_ok_at, load_bounds}
 use Rattle.slots.proofs.Sim.{get_view, set_view, became_view}
 
 taken_from : (o : Option Load) → is_some o ≡ true → (l : Load) × (Some l ≡ o)
@@ -139,12 +139,9 @@ module _ {K : Type 0} (numbers : K → List ℕ) where
   held_short true Free l o e = cc
   held_short true (Timed key t load) l o e = cc
   held_short true (Held load) l o e =
-      let p = and_parts (leb load.len load.limit) (leb load.limit 3952) o in
-      let p0 : load.len ≤ load.limit = leb-true _ _ p.0 in
-      let p1 : load.limit ≤ 3952 = leb-true _ _ p.1 in
+      let b = load_bounds load o in
       let z : load ≡ l = cc in
-      let y : load.len ≡ l.len = ap (λ (x : Load). x.len) z in
-      omega arith
+      omega (arith, b.0, b.1, ap (λ (x : Load). x.len) z)
 
   pub within : (s : Slots K) (C : ℕ) (r : law.Receipt) (l : Load) → r.slot < length s.table.entries.now → Some l ≡ named_load C r s.table.entries.now
       → (r.slot < 16) × (r.slot * 3952 + l.len ≤ length s.store.octets.now) × (length (take l.len (drop (r.slot * 3952) s.store.octets.now)) ≡ l.len)

@@ -3,6 +3,7 @@ use Rattle.std.proofs.Common.{◌≡◌, ℕ, zero, suc, ◌+◌, ◌-◌, ◌*�
 use Rattle.slots.specs.declared.alone.Slots.{Slots}
 use Rattle.slots.specs.Became.{Became}
 use Rattle.std.proofs.lemmas.Bool.{and_parts, leb-true, cases_lt}
+use Rattle.std.proofs.Math.ListN.{get_or-eq_default}
 use borrow.Rule.Slice.PartMut.{put_mid}
 use Rattle.std.proofs.lemmas.Slice.{take-put_mid, take-put_mid_below, drop-put_mid}
 use Rattle.std.proofs.lemmas.List.{length-take-le, length-drop, length-append, drop-append-le, drop-take, drop-drop}
@@ -19,7 +20,7 @@ use Rattle.slots.specs.Pieces.{step_for, found_of, found_entry, answer_of, entri
 use Rattle.slot_parts.specs.declared.deciding.Step.{Step}
 use Rattle.slot_parts.specs.declared.deciding.Step.TheVariants as step
 use Rattle.slot_laws.proofs.Look.{Frees, frees}
-use Rattle.slots.proofs.Loads.{all_ok_at}
+use Rattle.slots.proofs.Loads.{all_ok_at, load_bounds}
 use Rattle.slots.specs.View.{view, view_from, view_one}
 
 same_is : (a b : List ℕ) → law.same a b ≡ same_numbers a b
@@ -120,15 +121,11 @@ module _ {K : Type 0} (numbers : K → List ℕ) where
   one_same : (i a : ℕ) (os os' : List ℕ) (e : Entry K Load) → SameBut a os os' → i ≢ a → entry_ok e ≡ true → view_one numbers i os' e ≡ view_one numbers i os e
   one_same i a os os' Free s n ok = refl
   one_same i a os os' (Timed key ticks load) s n ok =
-      let p = and_parts (leb load.len load.limit) (leb load.limit 3952) ok in
-      let p0 : load.len ≤ load.limit = leb-true _ _ p.0 in
-      let p1 : load.limit ≤ 3952 = leb-true _ _ p.1 in
-      ap (λ x. law.opened (record { mark = numbers key; octets = x; remaining = load.remaining; limit = load.limit; ticks = ticks })) (s i load.len n (omega arith))
+      let b = load_bounds load ok in
+      ap (λ x. law.opened (record { mark = numbers key; octets = x; remaining = load.remaining; limit = load.limit; ticks = ticks })) (s i load.len n (omega (arith, b.0, b.1)))
   one_same i a os os' (Held load) s n ok =
-      let p = and_parts (leb load.len load.limit) (leb load.limit 3952) ok in
-      let p0 : load.len ≤ load.limit = leb-true _ _ p.0 in
-      let p1 : load.limit ≤ 3952 = leb-true _ _ p.1 in
-      ap law.whole (s i load.len n (omega arith))
+      let b = load_bounds load ok in
+      ap law.whole (s i load.len n (omega (arith, b.0, b.1)))
 
   tail_same : (i a : ℕ) (os os' : List ℕ) (es : List (Entry K Load)) → SameBut a os os' → a < i → all_ok es ≡ true → view_from numbers i os' es ≡ view_from numbers i os es
   tail_same i a os os' [] s l ok = refl
@@ -192,9 +189,7 @@ taken_is C T ss m true (suc r) d = refl
 taken_is C T ss m false r d = refl
 
 timed_below : {K : Type 0} (es : List (Entry K Load)) (k : ℕ) (key : K) (t : ℕ) (load : Load) → get_or es k Free ≡ Timed key t load → k < length es
-timed_below [] k key t load e = cc
-timed_below (x ∷ xs) zero key t load e = omega arith
-timed_below (x ∷ xs) (suc k) key t load e = omega (arith, timed_below xs k key t load e)
+timed_below es k key t load e = elim (cases_lt k (length es)) [ inl h ↦ h | inr h ↦ (let z = get_or-eq_default es Free h in cc) ]
 
 module _ {K : Type 0} (numbers : K → List ℕ) where
   length_view : (i : ℕ) (os : List ℕ) (es : List (Entry K Load)) → length (view_from numbers i os es) ≡ length es
@@ -242,9 +237,7 @@ module _ {K : Type 0} (numbers : K → List ℕ) where
       lt = timed_below es k held t load at
 
       bounds : (load.len ≤ load.limit) × (load.limit ≤ 3952)
-      bounds =
-          let p = and_parts (leb load.len load.limit) (leb load.limit 3952) (ap entry_ok (sym at) ∙ all_ok_at es k ok) in
-          (leb-true _ _ p.0, leb-true _ _ p.1)
+      bounds = load_bounds load (ap entry_ok (sym at) ∙ all_ok_at es k ok)
 
       octets-long : length o.octets ≡ load.len
       octets-long =
