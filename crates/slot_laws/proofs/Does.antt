@@ -1,9 +1,8 @@
 -- What a call does to the slots, by cases. The laws go by these cases.
-use Rattle.std.proofs.Common.{◌≡◌, ℕ, zero, suc, ◌<◌, Bool, true, false, cond, eqb, leb, ◌≢◌, ◌⊎◌, List, [], ◌∷◌, ◌++◌, map, length, get_or, set, Some, None, Option, sym, refl, ap, ◌∙◌, subst, inl, inr, arith}
+use Rattle.std.proofs.Common.{◌≡◌, ℕ, zero, suc, ◌<◌, Bool, true, false, eqb, leb, ◌≢◌, ◌⊎◌, List, ◌++◌, map, length, get_or, set, Some, None, Option, sym, refl, ap, ◌∙◌, inl, inr}
 use Rattle.std.proofs.lemmas.List.{get_or-set_same, get_or-set_other}
 use Rattle.std.proofs.lemmas.Bool.{cases_eq, eqb-true, and_parts}
 use Rattle.slot_laws.specs.Machine.{Open, Slot, free, opened, whole, Receipt, Event, piece, tick, release, copy, Answer, declined, alone, refused, opens, restarts, stray, breaks, holds, hands, lapses, released, copied, Found, missing, found, look, last_free, fresh, grown, Step, new_step, first_step, checked, follows_on, later_step, taken, proper, piece_step, age, lapse_count, named, receipt_for, release_step, copied_if, copy_answer, step}
-use Rattle.slot_laws.specs.Uses.{counts_opened, counts_broken, counts_handed, counts_lapsed}
 use Rattle.slot_laws.proofs.Look.{AllOff, Looks, looks, Frees, frees, named_whole}
 
 -- an answer to a call that leaves the slots as they are

@@ -1,9 +1,9 @@
 -- A whole slot's unit was handed up there, and stays until it is released; and no call changes the number of slots.
-use Rattle.std.proofs.Common.{◌≡◌, ℕ, zero, suc, ◌<◌, ◌≤◌, eqb, ◌≢◌, ◌⊎◌, List, [], ◌∷◌, ◌++◌, map, length, get_or, set, sym, refl, ap, ◌∙◌, inl, inr, arith}
-use Rattle.std.proofs.lemmas.List.{get_or-set_same, get_or-set_other, length-set, length-map, length-replicate}
+use Rattle.std.proofs.Common.{◌≡◌, ℕ, zero, suc, ◌<◌, ◌≤◌, eqb, ◌⊎◌, List, [], ◌∷◌, ◌++◌, length, get_or, set, sym, refl, ap, ◌∙◌, inl, inr, arith}
+use Rattle.std.proofs.lemmas.List.{get_or-set_other, length-set, length-map, length-replicate}
 use Rattle.std.proofs.lemmas.Bool.{cases_eq, eq-eqb, le-leb, cond-true}
 use Rattle.std.proofs.Math.ListN.{get_or-map}
-use Rattle.slot_laws.specs.Machine.{Open, Slot, free, opened, whole, Receipt, Event, piece, tick, release, copy, Answer, opens, restarts, breaks, holds, hands, lapses, released, fresh, grown, aged, Step, older, age, receipt_for, copied_if, copy_answer, lapse_count, step}
+use Rattle.slot_laws.specs.Machine.{Open, Slot, free, opened, whole, Receipt, Event, Answer, opens, restarts, breaks, holds, released, fresh, grown, Step, older, age, receipt_for, copied_if, copy_answer, step}
 use Rattle.slot_laws.specs.Uses.{Use, slots_after, answer_to, Hands, HandedUp, Unreleased, OneSender, Kept}
 use Rattle.slot_laws.proofs.Does.{no, only, full, lost, out, Does, leaves, opening, again, breaking, adding, handing, ticking, freeing, does, written, untouched}
 use Rattle.slot_laws.proofs.Splice.{gives, handed_low, unspliced, all_free}

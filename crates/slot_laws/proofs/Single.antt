@@ -1,5 +1,5 @@
 -- Under one mark at most one slot is open.
-use Rattle.std.proofs.Common.{◌≡◌, ℕ, ◌<◌, ◌≢◌, ◌⊎◌, List, [], ◌∷◌, ◌++◌, map, length, get_or, set, sym, refl, ap, ◌∙◌, inl, inr}
+use Rattle.std.proofs.Common.{◌≡◌, ℕ, ◌<◌, ◌≢◌, List, [], ◌∷◌, ◌++◌, map, length, get_or, set, sym, refl, ap, ◌∙◌, inl, inr}
 use Rattle.std.proofs.Math.ListN.{get_or-map}
 use Rattle.slot_laws.specs.Machine.{Open, Slot, free, opened, whole, Event, fresh, grown, Step, age}
 use Rattle.slot_laws.specs.Uses.{Use, slots_after, OneOpenEach}

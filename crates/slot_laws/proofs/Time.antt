@@ -3,7 +3,7 @@ use Rattle.std.proofs.Common.{◌≡◌, ℕ, zero, suc, ◌+◌, ◌<◌, ◌�
 use Rattle.std.proofs.lemmas.List.{get_or-set_same, get_or-set_other}
 use Rattle.std.proofs.lemmas.Bool.{cases_eq}
 use Rattle.std.proofs.Math.ListN.{get_or-map}
-use Rattle.slot_laws.specs.Machine.{Open, Slot, free, opened, whole, Receipt, Event, piece, tick, release, copy, Answer, opens, restarts, breaks, hands, fresh, grown, aged, Step, older, age, receipt_for, step}
+use Rattle.slot_laws.specs.Machine.{Open, Slot, free, opened, whole, Receipt, Event, piece, tick, release, copy, Answer, restarts, breaks, hands, fresh, grown, aged, Step, older, age, receipt_for, step}
 use Rattle.slot_laws.specs.Uses.{Use, counts_opened, slots_after, is_tick, tick_count, Ends, handed, broken, restarted, lapsed, Over, now_over, before, Opens, NoOpeningOutlives}
 use Rattle.slot_laws.proofs.Does.{no, only, full, lost, out, Does, leaves, opening, again, breaking, adding, handing, ticking, freeing, does, untouched}
 

@@ -1,7 +1,7 @@
 -- That the bounds on the loads are kept.
-use Rattle.std.proofs.Common.{◌≡◌, ℕ, zero, suc, ◌*◌, ◌≤◌, true, ltb, leb, List, [], ◌∷◌, map, length, get_or, take, set, Some, refl, ap, ◌∙◌, subst, arith}
+use Rattle.std.proofs.Common.{◌≡◌, ℕ, zero, suc, ◌*◌, ◌≤◌, true, ltb, List, [], ◌∷◌, map, length, get_or, take, set, Some, refl, ap, ◌∙◌, subst, arith}
 use Rattle.std.proofs.lemmas.List.{length-set, length-map, length-take-le}
-use Rattle.std.proofs.lemmas.Bool.{cond_both, and_from, and_parts, le-leb, leb-true}
+use Rattle.std.proofs.lemmas.Bool.{cond_both}
 use Rattle.timed_table.specs.declared.entry.Entry.{Entry}
 use Rattle.timed_table.specs.declared.entry.Entry.TheVariants.{Free, Timed, Held}
 use Rattle.slot_parts.specs.declared.load.Load.{Load}

@@ -1,6 +1,6 @@
 -- What ticks, releases, copies and the opening do to the slots as they are seen.
-use Rattle.std.proofs.Common.{◌≡◌, ℕ, zero, suc, ◌+◌, ◌-◌, ◌*◌, ◌<◌, ◌≤◌, Bool, true, false, cond, eqb, ltb, leb, List, [], ◌∷◌, ◌++◌, map, length, get_or, take, drop, set, replicate, Some, None, Option, is_some, OnSome, Ok, Err, count_by, sym, refl, ap, ◌∙◌, subst, arith, take_at}
-use Rattle.std.proofs.lemmas.Bool.{cond-true, and_parts, leb-true, le-leb, lt-leb}
+use Rattle.std.proofs.Common.{◌≡◌, ℕ, zero, suc, ◌+◌, ◌-◌, ◌*◌, ◌<◌, ◌≤◌, Bool, true, false, cond, eqb, ltb, List, [], ◌∷◌, ◌++◌, map, length, get_or, take, drop, set, replicate, Some, None, Option, is_some, OnSome, Ok, Err, count_by, sym, refl, ap, ◌∙◌, subst, arith, take_at}
+use Rattle.std.proofs.lemmas.Bool.{cond-true, le-leb, lt-leb}
 use Rattle.std.proofs.lemmas.List.{length-take-le, length-drop}
 use Rattle.std.proofs.lemmas.List.Sums.{sum_by-cons}
 use Rattle.slot_laws.specs.Machine as law

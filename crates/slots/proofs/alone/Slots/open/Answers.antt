@@ -1,4 +1,4 @@
-use Rattle.std.proofs.Common.{◌≤◌, min, map, length, take, ap, ◌∙◌, arith}
+use Rattle.std.proofs.Common.{min, map, length, take, ap, ◌∙◌, arith}
 use Rattle.timed_table.specs.declared.entry.Entry.TheVariants.{Free}
 use Rattle.slots.specs.Pieces.{slots_of}
 use Rattle.slots.proofs.Loads.{free_keeps}
