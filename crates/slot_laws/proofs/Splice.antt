@@ -249,9 +249,6 @@ members_new U h e k r q a =
 members_old : (U : Use) (h : List Event) (e : Event) (k : ℕ) → k < length h → members U (e ∷ h) k ≡ members U h k
 members_old U h e k q = cond-false (eqb k (length h)) (unit (deed (answer_to U h e)) (length h) (trail U h)) (members U h k) (ne_eqb k (length h) (λ z. omega arith))
 
-pub whole_inj : (a b : List ℕ) → whole a ≡ whole b → a ≡ b
-whole_inj a b e = cc
-
 some_pieces : {h : List Event} {m d : List ℕ} {r : ℕ} {ps : List ℕ} → Joined h m d r ps → 1 ≤ length ps
 some_pieces (first d r p a) = omega arith
 some_pieces (next d c r p ps j b a) = omega arith
@@ -269,7 +266,8 @@ unit_joined U h e k r x q a =
     let was : Joined h o.mark o.octets 1 (trail U h j) = subst (λ (y : ℕ). Joined h o.mark o.octets y (trail U h j)) w.last (joined U h j o w.at) in
     let new : Joined (e ∷ h) o.mark (o.octets ++ d) 0 (length h ∷ trail U h j) =
     next o.octets d 0 (length h) (trail U h j) (weaken h o.mark e was) (λ i. trail_low U h j i) (inl (refl, w.by)) in
-    let same-x : o.octets ++ d ≡ x = whole_inj (o.octets ++ d) x (sym w.is ∙ a.1) in
+    let at = w.is in
+    let same-x : o.octets ++ d ≡ x = (let is = a.1 in cc) in
     let placed : Joined (e ∷ h) o.mark x 0 (length h ∷ trail U h j) = subst (λ (y : List ℕ). Joined (e ∷ h) o.mark y 0 (length h ∷ trail U h j)) same-x new in (
       o.mark,
       trail U h j,
