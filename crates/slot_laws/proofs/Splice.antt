@@ -1,7 +1,7 @@
 -- Each unit is one mark's pieces, and no piece is in two units.
 use Rattle.std.proofs.Common.{◌≡◌, ℕ, zero, suc, ◌<◌, ◌≤◌, Bool, true, false, cond, eqb, ◌≢◌, ◌⊎◌, List, [], ◌∷◌, ◌++◌, length, get_or, set, replicate, sym, refl, ap, ◌∙◌, subst, inl, inr, arith}
 use Rattle.std.proofs.lemmas.List.{get_or-set_same}
-use Rattle.std.proofs.lemmas.Bool.{eqb-true, eqb-false, eq-eqb, ne_eqb, cond-true, cond-false}
+use Rattle.std.proofs.lemmas.Bool.{eqb-true, eqb-false, eq-eqb, ne_eqb}
 use Rattle.std.proofs.Math.ListN.{get_or-map}
 use Rattle.slot_laws.specs.Machine.{Open, Slot, free, opened, whole, Receipt, Event, piece, tick, release, Answer, declined, alone, refused, opens, restarts, stray, breaks, holds, hands, lapses, released, copied, fresh, grown, aged, Step, older, age, receipt_for, step}
 use Rattle.slot_laws.specs.Uses.{Use, slots_after, answer_to, Mem, Joined, first, next, Hands, HandedUp}
@@ -242,12 +242,10 @@ handed_low U (e ∷ h) k r x (inl p) = omega (arith, p.0)
 handed_low U (e ∷ h) k r x (inr q) = omega (arith, handed_low U h k r x q)
 
 members_new : (U : Use) (h : List Event) (e : Event) (k : ℕ) (r : Receipt) → k ≡ length h → answer_to U h e ≡ hands r → members U (e ∷ h) k ≡ length h ∷ trail U h r.slot
-members_new U h e k r q a =
-    cond-true (eqb k (length h)) (unit (deed (answer_to U h e)) (length h) (trail U h)) (members U h k) (eq-eqb k (length h) q)
-    ∙ ap (λ x. unit (deed x) (length h) (trail U h)) a
+members_new U h e k r q a = rw (eq-eqb k (length h) q) (ap (λ x. unit (deed x) (length h) (trail U h)) a)
 
 members_old : (U : Use) (h : List Event) (e : Event) (k : ℕ) → k < length h → members U (e ∷ h) k ≡ members U h k
-members_old U h e k q = cond-false (eqb k (length h)) (unit (deed (answer_to U h e)) (length h) (trail U h)) (members U h k) (ne_eqb k (length h) (λ z. omega arith))
+members_old U h e k q = rw (ne_eqb k (length h) (λ z. omega arith)) refl
 
 some_pieces : {h : List Event} {m d : List ℕ} {r : ℕ} {ps : List ℕ} → Joined h m d r ps → 1 ≤ length ps
 some_pieces (first d r p a) = omega arith
@@ -263,18 +261,12 @@ unit_joined U h e k r x q a =
     let w = gives U.code U.ticks (slots_after U h) e r a.0 in
     let o = w.was in
     let d = w.load in
-    let was : Joined h o.mark o.octets 1 (trail U h j) = subst (λ (y : ℕ). Joined h o.mark o.octets y (trail U h j)) w.last (joined U h j o w.at) in
+    let was : Joined h o.mark o.octets 1 (trail U h j) = rw (← w.last) (joined U h j o w.at) in
     let new : Joined (e ∷ h) o.mark (o.octets ++ d) 0 (length h ∷ trail U h j) =
     next o.octets d 0 (length h) (trail U h j) (weaken h o.mark e was) (λ i. trail_low U h j i) (inl (refl, w.by)) in
     let at = w.is in
     let same-x : o.octets ++ d ≡ x = (let is = a.1 in cc) in
-    let placed : Joined (e ∷ h) o.mark x 0 (length h ∷ trail U h j) = subst (λ (y : List ℕ). Joined (e ∷ h) o.mark y 0 (length h ∷ trail U h j)) same-x new in (
-      o.mark,
-      trail U h j,
-      members_new U h e k r q a.0 ∙ ap (λ n. n ∷ trail U h j) (sym q),
-      some_pieces was,
-      subst (λ (n : ℕ). Joined (e ∷ h) o.mark x 0 (n ∷ trail U h j)) (sym q) placed,
-    )
+    (o.mark, trail U h j, members_new U h e k r q a.0 ∙ ap (λ n. n ∷ trail U h j) (sym q), some_pieces was, rw (q, ← same-x) new)
 
 units_joined : (U : Use) (h : List Event) (k : ℕ) (r : Receipt) (x : List ℕ) → HandedUp U h k r x → Made U h k x
 units_joined U [] k r x z = absurd z
