@@ -9,8 +9,7 @@ use Rattle.slot_parts.specs.Loads.{load_ok}
 use Rattle.slots.specs.Loads.{entry_ok, all_ok}
 use Rattle.slots.specs.Sound.{Sound}
 use Rattle.timed_table.specs.Table.{reloaded, timed_load, ticked}
-use Rattle.slot_parts.specs.Deciding.{Grows}
-use Rattle.slots.specs.Pieces.{found_entry, slots_of}
+use Rattle.slots.specs.Pieces.{slots_of}
 
 module _ {K : Type 0} where
   pub all_ok_set : (es : List (Entry K Load)) (i : ℕ) (e : Entry K Load) → all_ok es ≡ true → entry_ok e ≡ true → all_ok (set es i e) ≡ true
@@ -28,9 +27,6 @@ module _ {K : Type 0} where
   reloaded_ok load (Timed key ticks old) h k = k
   reloaded_ok load (Held old) h k = h
 
-pub grows_ok : {slot : ℕ} {load : Load} {k n : ℕ} → Grows slot load k n → load_ok load ≡ true
-grows_ok {load = load} h = let a : load.len ≤ load.limit = h.short in let b : load.limit ≤ 3952 = h.stretch in grind (arith)
-
 -- the bounds that a load has
 pub load_bounds : (load : Load) → load_ok load ≡ true → (load.len ≤ load.limit) × (load.limit ≤ 3952)
 load_bounds load h = (grind (arith), grind (arith))
@@ -46,11 +42,6 @@ module _ {K : Type 0} (slot : ℕ) (load : Load) where
 
   pub found_within : (es : List (Entry K Load)) → all_ok es ≡ true → timed_load (get_or es slot Free) ≡ Some load → (load.len ≤ load.limit) × (load.limit ≤ 3952)
   found_within es h t = timed_within (get_or es slot Free) (all_ok_at es slot h) t
-
-  pub found_entry_is : (e : Entry K Load) → timed_load e ≡ Some load → Some (record { slot = slot; load = load }) ≡ found_entry slot e
-  found_entry_is Free t = cc
-  found_entry_is (Timed key ticks l) t = cc
-  found_entry_is (Held l) t = cc
 
 -- the bounds on the slots after an entry is put
 pub put_keeps : {K : Type 0} (es es' : List (Entry K Load)) (os : List ℕ) (slot : ℕ) (e : Entry K Load) → es' ≡ set es slot e → Sound es os → entry_ok e ≡ true → Sound es' os
