@@ -48,7 +48,7 @@ impl ReceiveRefusal {
     pub fn number(&self) -> u8
         ensures { result ≡ receive_number self.now }
     {
-        // Stays: a variant with a field has no number of its own, so a cast would need unsafe code.
+        // Stays: where a variant has a field, no variant has a number that a cast could read.
         match self {
             ReceiveRefusal::Unread { .. } => 41,
             ReceiveRefusal::NotOurs => 42,
@@ -60,7 +60,7 @@ impl SendRefusal {
     pub fn number(&self) -> u8
         ensures { result ≡ send_number self.now }
     {
-        // Stays: a variant with a field has no number of its own, so a cast would need unsafe code.
+        // Stays: where a variant has a field, no variant has a number that a cast could read.
         match self {
             SendRefusal::CalledAddress => 31,
             SendRefusal::CallingAddress => 32,
