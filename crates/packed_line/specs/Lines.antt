@@ -289,6 +289,15 @@ pack_fits a total used count i r e p h = all_fit_map _ 0 count (λ k l. grind (a
 pub moved_lowered : (xs ys zs ws : List ℕ) (total used count n : ℕ) → n ≤ used → used ≤ length xs → ys ≡ paste xs 0 (drop n xs) (used - n) → zs ≡ ys → ws ≡ lowered zs total n (count - 1) → ws ≡ take_packed xs total used count n
 moved_lowered xs ys zs ws total used count n h i m e l = l ∙ ap (λ z. lowered z total n (count - 1)) (e ∙ (m ∙ moved_paste xs n used h i))
 
+-- the messages behind the oldest begin behind it, also where the entries lie once the octets were moved
+pub above_moved : (xs ys zs : List ℕ) (total used count n : ℕ) → n ≤ used → used + 4 * count ≤ total → total ≤ length xs → ys ≡ paste xs 0 (drop n xs) (used - n) → zs ≡ ys → Placed xs total count → n ≡ length_of xs total 0 → (k : ℕ) → k < count - 1 → n ≤ offset_of zs total (k + 1)
+above_moved xs ys zs total used count n h r i m e p f k l =
+    let u : used ≤ length xs = omega arith in
+    let z : zs ≡ moved xs n used = e ∙ (m ∙ moved_paste xs n used h u) in
+    let s = entry_same zs xs total (k + 1) (λ j a b. ap (λ q. slice_index q j) z ∙ moved_out xs n used h u j (omega arith)) in
+    let o = above_oldest xs total count p k l in
+    omega (arith, s.0, o, f)
+
 -- what a take leaves in an area
 pub record Shrunk (a b : List ℕ) (total used count n : ℕ) : Type 0 where
   pub area : b ≡ take_packed a total used count n

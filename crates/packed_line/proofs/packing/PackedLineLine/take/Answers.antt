@@ -2,9 +2,18 @@ use Rattle.std.proofs.Common.{◌<◌, length, ap, ◌∙◌, arith}
 use Rattle.std.specs.Vec.{with_items}
 use Rattle.std.proofs.lemmas.List.{with_items_is}
 use Rattle.std.proofs.lemmas.Bool.Decides.{nat_tests}
-use Rattle.packed_line.specs.Lines.{Shrunk, shrunk, moved_lowered, oldest_length, pack_length}
+use Rattle.packed_line.specs.Lines.{Shrunk, shrunk, above_moved, moved_lowered, oldest_length, pack_length}
 use Rattle.packed_line.proofs.packing.PackedLineLine.take.Goals.{After-lower_index}
 use Rattle.packed_line.proofs.packing.PackedLineLine.take.Goals as goal
+
+pub lower_index-requires : goal.lower_index-requires
+lower_index-requires c =
+    let s = c.args.self.now in
+    let some : 0 < s.count = grind (arith, nat_tests) in
+    record {
+      size = (some, (omega arith, omega arith));
+      above = above_moved s.area.items _ _ s.total s.used s.count _ (omega arith) s.room (omega arith) c.copy_within.ensures.items c.deref_mut.ensures.value s.placed (ap length c.oldest-message.ensures.value ∙ oldest_length s.area.items s.total s.used s.count (omega arith) (omega arith) s.ends s.placed some);
+    }
 
 -- what the calls leave of the area
 left : (c : After-lower_index) → Shrunk c.args.self.now.area.items (with_items c.copy_within.new.self c.lower_index.new.area).items c.args.self.now.total c.args.self.now.used c.args.self.now.count (length c.oldest-message.result.now)
