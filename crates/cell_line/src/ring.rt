@@ -112,17 +112,12 @@ impl Line for CellLine {
     }
 }
 
-impl InArea for CellLine {
-    ghost memory = { λ s. s.area };
-
-    ghost empty_places = { λ n. n / cell_octets };
-
-    ghost emptied = { Prim.grind arith };
-
+// A line in an area is made and closed by its own name; code for any line in an area has the same by the trait.
+impl CellLine {
     // An empty line in the area given; an area under 4,416 octets is given back.
     // Stays: each line tests its area by itself, in two lines of a crate of its own.
     #[tactic(auto, unfolding(crate::specs::Ring::messages))]
-    fn new(area: Vec<u8>) -> Result<CellLine, (LineRefusal, Vec<u8>)>
+    pub fn new(area: Vec<u8>) -> Result<CellLine, (LineRefusal, Vec<u8>)>
         ensures { MatchResult result (λ s. (s.area ≡ area) × (waiting_in s ≡ []) × (places_in s ≡ vec_len area / cell_octets) × (s.head ≡ 0) × (4416 ≤ vec_len area)) (λ e. (e ≡ (LineRefusal.AreaTooSmall, area)) × (vec_len area < 4416)) }
     {
         if area.len() < AREA_LEAST {
@@ -137,10 +132,30 @@ impl InArea for CellLine {
     }
 
     // Ends the line and gives the area back, as the calls left it.
-    fn close(self) -> Vec<u8>
+    pub fn close(self) -> Vec<u8>
         ensures { result ≡ self.area }
     {
         let CellLine { area, .. } = self;
         area
+    }
+}
+
+impl InArea for CellLine {
+    ghost memory = { λ s. s.area };
+
+    ghost empty_places = { λ n. n / cell_octets };
+
+    ghost emptied = { Prim.grind arith };
+
+    fn new(area: Vec<u8>) -> Result<CellLine, (LineRefusal, Vec<u8>)>
+        ensures { MatchResult result (λ s. (s.area ≡ area) × (waiting_in s ≡ []) × (places_in s ≡ vec_len area / cell_octets) × (s.head ≡ 0) × (4416 ≤ vec_len area)) (λ e. (e ≡ (LineRefusal.AreaTooSmall, area)) × (vec_len area < 4416)) }
+    {
+        CellLine::new(area)
+    }
+
+    fn close(self) -> Vec<u8>
+        ensures { result ≡ self.area }
+    {
+        CellLine::close(self)
     }
 }

@@ -95,17 +95,12 @@ impl Line for PackedLine {
     }
 }
 
-impl InArea for PackedLine {
-    ghost memory = { λ s. s.area };
-
-    ghost empty_places = { λ n. places_beside (min n 65536) 0 };
-
-    ghost emptied = { Prim.grind arith };
-
+// A line in an area is made and closed by its own name; code for any line in an area has the same by the trait.
+impl PackedLine {
     // An empty line in the first 65,536 octets of the area given, at most; an area under 4,416 octets is given back.
     // Stays: each line tests its area by itself, in two lines of a crate of its own.
     #[tactic(auto, unfolding(crate::specs::Pack::messages, crate::specs::Pack::octets_of))]
-    fn new(area: Vec<u8>) -> Result<PackedLine, (LineRefusal, Vec<u8>)>
+    pub fn new(area: Vec<u8>) -> Result<PackedLine, (LineRefusal, Vec<u8>)>
         ensures { MatchResult result (λ s. (s.area ≡ area) × (waiting_in s ≡ []) × (places_in s ≡ places_beside (min (vec_len area) 65536) 0) × (s.used ≡ 0) × (4416 ≤ vec_len area)) (λ e. (e ≡ (LineRefusal.AreaTooSmall, area)) × (vec_len area < 4416)) }
     {
         if area.len() < AREA_LEAST {
@@ -120,10 +115,30 @@ impl InArea for PackedLine {
     }
 
     // Ends the line and gives the area back, as the calls left it.
-    fn close(self) -> Vec<u8>
+    pub fn close(self) -> Vec<u8>
         ensures { result ≡ self.area }
     {
         let PackedLine { area, .. } = self;
         area
+    }
+}
+
+impl InArea for PackedLine {
+    ghost memory = { λ s. s.area };
+
+    ghost empty_places = { λ n. places_beside (min n 65536) 0 };
+
+    ghost emptied = { Prim.grind arith };
+
+    fn new(area: Vec<u8>) -> Result<PackedLine, (LineRefusal, Vec<u8>)>
+        ensures { MatchResult result (λ s. (s.area ≡ area) × (waiting_in s ≡ []) × (places_in s ≡ places_beside (min (vec_len area) 65536) 0) × (s.used ≡ 0) × (4416 ≤ vec_len area)) (λ e. (e ≡ (LineRefusal.AreaTooSmall, area)) × (vec_len area < 4416)) }
+    {
+        PackedLine::new(area)
+    }
+
+    fn close(self) -> Vec<u8>
+        ensures { result ≡ self.area }
+    {
+        PackedLine::close(self)
     }
 }
