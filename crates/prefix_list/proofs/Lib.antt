@@ -1,3 +1,4 @@
 pub mod Fronts
 pub mod Ranges
 pub mod Choosing
+pub mod Copying

@@ -97,14 +97,14 @@ impl PrefixEntry {
     }
 
     // Whether the entry fits the digits of a title: its values are in their ranges, the
-    // selectors are the same, and the digits begin with its own.
+    // selectors are the same, and the digits begin with its own. The ranges take longest, and
+    // are tested last.
     pub fn fits(&self, selector: Selector, digits: &[u8]) -> bool
         ensures { result ≡ entry_fits selector digits.now self.now }
     {
-        self.rule().is_some()
+        self.prefix()
+            .is_some_and(|prefix| digits.starts_with(prefix))
             && self.is_for(selector)
-            && self
-                .prefix()
-                .is_some_and(|prefix| digits.starts_with(prefix))
+            && self.rule().is_some()
     }
 }

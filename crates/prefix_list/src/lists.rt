@@ -1,7 +1,8 @@
 ghost use Rattle.std.specs.Prelude.{◌≡◌};
+ghost use Rattle.std.specs.Option.{option_copied};
 ghost use Rattle.translation.specs.Rules.{rule_found};
 ghost use Rattle.prefix_list.specs.Longest.{LongestDecides};
-ghost use Rattle.prefix_list.specs.Prefixes.{better, longest, rule_of, any_of};
+ghost use Rattle.prefix_list.specs.Prefixes.{longer_of, longest, rule_of, any_of};
 
 use crate::entries::PrefixEntry;
 use translation::{Rule, Selector, Translator};
@@ -14,19 +15,13 @@ pub struct PrefixList<'a> {
     entries: &'a [PrefixEntry],
 }
 
-// The better of what was found and an entry: the longer that fits, the earlier if equal.
+// The better of what was found and an entry that fits: the longer, the earlier if equal.
 // Stays: max_by_key takes the last of equals, so the list would have to be turned.
-fn better_of(
-    best: Option<PrefixEntry>,
-    entry: &PrefixEntry,
-    selector: Selector,
-    digits: &[u8],
-) -> Option<PrefixEntry>
-    ensures { result ≡ better selector digits.now best entry.now }
+fn better_of<'e>(best: Option<&'e PrefixEntry>, entry: &'e PrefixEntry) -> Option<&'e PrefixEntry>
+    ensures { option_copied result ≡ longer_of (option_copied best.entry) entry.now }
 {
-    let is_longer = best.is_none_or(|found| found.count < entry.count);
-    if is_longer && entry.fits(selector, digits) {
-        Some(*entry)
+    if best.is_none_or(|found| found.count < entry.count) {
+        Some(entry)
     } else {
         best
     }
@@ -39,12 +34,16 @@ impl<'a> PrefixList<'a> {
         PrefixList { entries }
     }
 
-    // The entry that decides for the digits of a title, where one fits.
-    #[tactic(auto, unfolding(crate::specs::Prefixes::longest))]
+    // The entry that decides for the digits of a title, where one fits. It is looked for by
+    // references, and copied once.
     pub fn entry_for(&self, selector: Selector, digits: &[u8]) -> Option<PrefixEntry>
         ensures { result ≡ longest selector digits.now self.now.entries.now }
     {
-        self.entries.iter().fold(None, |best, entry| better_of(best, entry, selector, digits))
+        self.entries
+            .iter()
+            .filter(|entry| entry.fits(selector, digits))
+            .fold(None, |best, entry| better_of(best, entry))
+            .copied()
     }
 
     // The rule for the digits of a title, where one fits.
