@@ -1,22 +1,23 @@
 // The marks of a script.
-ghost use Rattle.std.specs.Prelude.{◌≡◌, ◌≤◌, vec_len};
+ghost use Rattle.std.specs.Prelude.{◌≡◌, ◌≤◌, take};
 ghost use Rattle.timed_table.specs.Marks.{same_numbers};
 
 use crate::words;
 use crate::words::BadLine;
 use slots::Mark;
-use std::alloc::Global;
 
 const MOST_NUMBERS: usize = 8;
 
-// A mark that is a list of up to eight numbers.
-#[derive(Drop)]
+// A mark that is a list of up to eight numbers: the first `count`. It takes no memory, so a line with a mark is never
+// refused for want of it.
+#[derive(Clone, Copy)]
 pub struct ListMark {
-    numbers: Vec<u32>,
-    ghost few: { vec_len numbers ≤ 8 },
+    numbers: [u32; MOST_NUMBERS],
+    count: usize,
+    ghost few: { count ≤ 8 },
 }
 
-// Stays: written into `same`, where the lists are those of two vectors, its proof does not close.
+// Stays: written into `same`, where the lists are parts of two arrays, its proof does not close.
 fn same_numbers(a: &[u32], b: &[u32]) -> bool
     ensures { result ≡ same_numbers a.now b.now }
 {
@@ -24,23 +25,25 @@ fn same_numbers(a: &[u32], b: &[u32]) -> bool
 }
 
 impl Mark for ListMark {
-    ghost numbers = { λ m. m.numbers.items };
+    ghost numbers = { λ m. take m.count m.numbers };
 
     fn same(&self, other: &ListMark) -> bool {
-        same_numbers(self.numbers.as_slice(), other.numbers.as_slice())
+        same_numbers(&self.numbers[..self.count], &other.numbers[..other.count])
     }
 }
 
 impl ListMark {
     // The mark of numbers with commas between them.
-    pub fn of_word(heap: Global, word: &str) -> Result<ListMark, BadLine> {
-        let mut numbers = Vec::new(heap);
+    pub fn of_word(word: &str) -> Result<ListMark, BadLine> {
+        let mut numbers = [0; MOST_NUMBERS];
+        let mut count = 0;
         for part in word.split(',') {
-            if numbers.len() >= MOST_NUMBERS {
+            if count >= MOST_NUMBERS {
                 return Err(BadLine::NotMark);
             }
-            numbers.push(words::number(part)?)?;
+            numbers[count] = words::number(part)?;
+            count += 1;
         }
-        Ok(ListMark { numbers })
+        Ok(ListMark { numbers, count })
     }
 }

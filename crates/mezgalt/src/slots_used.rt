@@ -68,7 +68,7 @@ impl Given {
     fn read(heap: Global, rest: &str) -> Result<Given, BadLine> {
         words::only_keys(rest, &["mark", "first", "remaining", "data"])?;
         Ok(Given {
-            mark: ListMark::of_word(heap, words::value(rest, "mark")?)?,
+            mark: ListMark::of_word(words::value(rest, "mark")?)?,
             first: words::yes_or_no(words::value(rest, "first")?)?,
             remaining: words::number(words::value(rest, "remaining")?)?,
             unit: words::octets(heap, words::value(rest, "data")?)?,

@@ -188,11 +188,11 @@ impl<V: Availability> Tried<'_, V> {
         print_found(rt, a, rule)?;
         match translation::translate(translator, self.availability, self.own, a) {
             Ok(t) => {
+                let called = hexadecimal::text_of(rt.alloc(), t.called.octets())?;
                 print!(rt; " to={} on={}", t.route.code.number(), way(t.route.routing))?;
                 if let Some(subsystem) = t.route.subsystem {
                     print!(rt; " subsystem={subsystem}")?;
                 }
-                let called = hexadecimal::text_of(rt.alloc(), t.called.octets())?;
                 println!(rt; " called={called}")?;
             }
             Err(cause) => println!(rt; " cause={}: {cause}", cause.number())?,

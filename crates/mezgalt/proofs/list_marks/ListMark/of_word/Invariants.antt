@@ -1,5 +1,5 @@
-use Rattle.std.proofs.Common.{◌≤◌, vec_len}
+use Rattle.std.proofs.Common.{◌≡◌, ◌≤◌, length}
 use Rattle.mezgalt.proofs.list_marks.ListMark.of_word.Given as goal
 
 abbrev pub invariant-loop-part : goal.invariant-loop-part
-invariant-loop-part l = vec_len l.numbers ≤ 8
+invariant-loop-part l = (l.count ≤ 8) × (length l.numbers ≡ 8)
