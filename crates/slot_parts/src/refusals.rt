@@ -41,7 +41,7 @@ impl SettingsRefusal {
     pub fn number(&self) -> u8
         ensures { result ≡ settings_number self.now }
     {
-        *self as u8
+        *self as u8 // 1 or 2
     }
 }
 
@@ -57,7 +57,7 @@ impl CopyRefusal {
     pub fn number(&self) -> u8
         ensures { result ≡ copy_number self.now }
     {
-        *self as u8
+        *self as u8 // 51 or 52
     }
 }
 
