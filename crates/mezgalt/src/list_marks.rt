@@ -8,8 +8,8 @@ use slots::Mark;
 
 const MOST_NUMBERS: usize = 8;
 
-// A mark that is a list of up to eight numbers: the first `count`. It takes no memory, so a line with a mark is never
-// refused for want of it.
+// A mark that is a list of up to eight numbers: the first `count`. It takes no memory, so a mark is never refused for
+// want of it.
 #[derive(Clone, Copy)]
 pub struct ListMark {
     numbers: [u32; MOST_NUMBERS],
